@@ -1,17 +1,6 @@
 -- What of a job's roots holds in the program without phases, before its task of a number.
-use Rattle.std.proofs.Common.{◌≡◌, ℕ, List, Some, length, true}
-use Rattle.sj_base.specs.declared.ids.Cell.{Cell}
-use Rattle.sj_base.specs.declared.mode.Reduction.{Reduction}
-use Rattle.sj_base.specs.declared.program.Program.{Program}
-use Rattle.sj_plan.specs.Parts.{IsPlace}
-use Rattle.sj_meaning.specs.State.{RootState, is_valued_child}
-use Rattle.sj_meaning.specs.Numbers.{root_at}
-use Rattle.sj_phases.specs.Plain.{OpenReductions}
-use Rattle.sj_lower.specs.Laid.{Laid, cell_of}
-use Rattle.sj_lower.specs.SoundAt.{Lives}
-use Rattle.sj_lower.specs.Whole.{AreLaid, HaveCopies}
-use Rattle.sj_lower.proofs.Contents.{contents_before}
-use Rattle.sj_lower.proofs.Keeping.{HasCells, HaveRoots}
+use Rattle.sj_lower.proofs.Words.{AreLaid, Cell, cell_of, HaveCopies, is_valued_child, IsPlace, Laid, length, List, Lives, OpenReductions, Program, Reduction, root_at, RootState, Some, true, ℕ, ◌≡◌}
+use Rattle.sj_lower.proofs.{Contents.contents_before, Keeping.HasCells, Keeping.HaveRoots}
 
 -- a cell whose phase is open is that of a child of its root's active plan, which has a value, and the root has that reduction
 pub record IsOpenChild (C : Laid) (rs : List RootState) (c : Cell) (by : Reduction) : Type 0 where

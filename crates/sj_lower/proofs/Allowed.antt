@@ -1,30 +1,12 @@
 -- A job that lines may say is sound by its roots' names, and no task of it has the codelet that delivers.
-use Rattle.std.proofs.Common.{◌≡◌, ℕ, ◌+◌, Bool, true, ◌&&◌, Some, Ok, List, [], ◌∷◌, ap, sym, subst, ◌∙◌}
+use Rattle.sj_lower.proofs.Words.{[], Act, act_at, act_seen, ap, apply, AreSoundActs, Bool, codelet_of, count_after, Deliver, first_of, Form, has_name, init_said, Invalidates, IsWell, JobState, judged, Kept, KeptAct, Kernel, kernel_of, kernels, List, name_reasons, Ok, parts_said, plan_reasons, Plans, print_reasons, Prints, Reduces, redux_reasons, register_reasons, registered_by, Registers, Scope, scope_of, seen_from, Some, Statement, statements_from, subst, sym, Table, TaskForm, Tasks, true, Unregisters, ℕ, ◌&&◌, ◌+◌, ◌∙◌, ◌∷◌, ◌≡◌}
 use Rattle.std.proofs.lemmas.Bool.{false≢true}
 use Rattle.sj_base.proofs.Bools.{and_rest}
-use Rattle.sj_codelet.specs.declared.kernel.Kernel.{Kernel}
-use Rattle.sj_codelet.specs.declared.kernel.Kernel.TheVariants.{Deliver}
-use Rattle.sj_codelet.specs.Kernel.{codelet_of, has_name, kernel_of, kernels}
 use Rattle.sj_codelet.proofs.Table.{kernel_of-codelet_of}
-use Rattle.sj_meaning.specs.declared.job.Act.{Act as KeptAct}
+use Rattle.sj_job.proofs.Sounding.{found_passes, IsJudged, judged-task, sound_from_allowed, unless_parts}
+use Rattle.sj_lower.proofs.{Naming.AreSilent, Sounding.IsSilent}
 use Rattle.sj_meaning.specs.declared.job.Act.TheVariants as kept
-use Rattle.sj_meaning.specs.declared.job.Statement.{Statement as Kept}
-use Rattle.sj_meaning.specs.Act.{Act, Statement, Register as Registers, Plan as Plans, Redux as Reduces, Task as Tasks, Print as Prints, Invalidate as Invalidates, Unregister as Unregisters}
-use Rattle.sj_meaning.specs.State.{JobState}
-use Rattle.sj_meaning.specs.Meaning.{apply}
-use Rattle.sj_meaning.specs.Numbers.{act_at, statements_from}
-use Rattle.sj_meaning.specs.Sound.{AreSoundActs}
-use Rattle.sj_meaning.specs.Table.{Table}
-use Rattle.sj_meaning.specs.View.{act_seen, seen_from, count_after}
-use Rattle.sj_job.specs.declared.form.Form.{Form}
 use Rattle.sj_job.specs.declared.form.Form.TheVariants as form
-use Rattle.sj_job.specs.declared.form.TaskForm.{TaskForm}
-use Rattle.sj_job.specs.Judge.{first_of, judged, name_reasons, plan_reasons, print_reasons, redux_reasons, register_reasons, Scope, scope_of}
-use Rattle.sj_job.specs.Sentence.{init_said, parts_said, registered_by}
-use Rattle.sj_job.specs.Well.{IsWell}
-use Rattle.sj_job.proofs.Sounding.{IsJudged, unless_parts, judged-task, found_passes, sound_from_allowed}
-use Rattle.sj_lower.proofs.Naming.{AreSilent}
-use Rattle.sj_lower.proofs.Sounding.{IsSilent}
 
 -- ---- soundness
 

@@ -1,31 +1,7 @@
 -- Each arm of the code does what the statement's block says.
-use Rattle.std.proofs.Common.{◌≡◌, ℕ, ◌<◌, Option, Some, None, List, [], ◌∷◌, ◌++◌, length, fold, refl, sym, ap, subst, ◌∙◌, inl, inr, arith, get_or-set_same, get_or-set_other}
-use Rattle.std.specs.Prelude.{set}
-use Rattle.std.proofs.lemmas.Bool.{cases_eq, cases_lt}
-use Rattle.std.proofs.lemmas.List.{set_past}
-use Rattle.std.proofs.lemmas.List.Sums.{fold-append}
-use Rattle.sj_base.specs.declared.ids.Cell.{Cell}
-use Rattle.sj_base.specs.declared.ids.Line.{Line}
-use Rattle.sj_base.specs.declared.program.Delivery.{Delivery}
-use Rattle.sj_base.specs.declared.program.Lowered.{Lowered}
-use Rattle.sj_base.specs.Array.{Array, area}
-use Rattle.sj_meaning.specs.Statement.{Operand}
-use Rattle.sj_meaning.specs.State.{RootState}
-use Rattle.sj_meaning.specs.Meaning.{with_child}
-use Rattle.sj_meaning.specs.Numbers.{root_at, no_root, change_at, put_all_at}
-use Rattle.sj_phases.specs.declared.expander.Expander.{Expander}
-use Rattle.sj_phases.specs.declared.phase.PhaseOpening.{PhaseOpening}
-use Rattle.sj_phases.specs.Block.{TaskBlock}
-use Rattle.sj_phases.specs.Does.{StandsAt, over_after, Does}
-use Rattle.sj_phases.specs.Expand.{Expansion, closed, opened, expanded, with_own}
-use Rattle.sj_phases.proofs.Blocks.{goes-closed, goes-opened}
-use Rattle.sj_phases.proofs.Doing.{does-then, does-as, does-nothing, goes-own, own-nothing}
-use Rattle.sj_phases.proofs.Logging.{none_isn't}
-use Rattle.sj_lower.specs.declared.steps.Steps.{Steps}
-use Rattle.sj_lower.specs.Adds.{StepsAt, Goes}
-use Rattle.sj_lower.specs.Follows.{Follows}
-use Rattle.sj_lower.specs.Laid.{Laid}
-use Rattle.sj_lower.specs.SoundAt.{Lives}
+use Rattle.sj_lower.proofs.Words.{[], ap, area, arith, Array, Cell, change_at, closed, Delivery, Does, expanded, Expander, Expansion, fold, Follows, get_or-set_other, get_or-set_same, Goes, inl, inr, Laid, length, Line, List, Lives, Lowered, no_root, None, opened, Operand, Option, over_after, PhaseOpening, put_all_at, refl, root_at, RootState, set, Some, StandsAt, Steps, StepsAt, subst, sym, TaskBlock, with_child, with_own, ℕ, ◌++◌, ◌<◌, ◌∙◌, ◌∷◌, ◌≡◌}
+use Rattle.std.proofs.lemmas.{Bool.cases_eq, Bool.cases_lt, List.set_past, List.Sums.fold-append}
+use Rattle.sj_phases.proofs.{Blocks.goes-closed, Blocks.goes-opened, Doing.does-as, Doing.does-nothing, Doing.does-then, Doing.goes-own, Doing.own-nothing, Logging.none_isn't}
 
 -- ---- what was done before there were too many tasks
 

@@ -1,44 +1,11 @@
 -- The tasks of the runtime's own codelets, one child after another.
-use Rattle.std.proofs.Common.{◌≡◌, ℕ, ◌+◌, ◌*◌, ◌/◌, ◌%◌, ◌<◌, inl, inr, ℤ, pos, List, [], ◌∷◌, ◌++◌, map, length, get_or, sym, ap, ◌∙◌, arith, length-append, append_assoc, refl, subst}
-use Rattle.std.specs.List.{range_with_len}
-use Rattle.std.specs.Prelude.{zip}
+use Rattle.sj_lower.proofs.Words.{[], a_delivery, access, ap, append_assoc, area, arith, array, Cell, cells_after, cells_by, cells_from, child, children_count, children_of, Delivery, Dims, Does, Expander, Expansion, Fits, get_or, inl, inr, length, length-append, Line, List, Load, load_row, Lowered, map, moved, own_task, part_len, Parts, Placed, places, pos, range_with_len, Rect, refl, subst, sym, undivided, W, window, with_own, zip, ℕ, ℤ, ◌%◌, ◌*◌, ◌++◌, ◌+◌, ◌/◌, ◌<◌, ◌∙◌, ◌∷◌, ◌≡◌}
 use Rattle.std.proofs.Math.Nat.{mul_comm}
-use Rattle.std.proofs.lemmas.List.{map-append, map-id, length-map, same_lists}
-use Rattle.std.proofs.lemmas.List.FromFn.{length-map-range_with_len, get_or-map-range_with_len}
-use Rattle.sj_base.specs.declared.ids.Cell.{Cell}
-use Rattle.std.proofs.lemmas.Nat.{div-add-mod', mul-le}
-use Rattle.std.proofs.lemmas.Bool.{cases_lt}
-use Rattle.sj_base.specs.declared.ids.Line.{Line}
-use Rattle.sj_base.specs.declared.mode.Mode.TheVariants.{W}
-use Rattle.sj_base.specs.declared.program.Lowered.{Lowered}
-use Rattle.sj_base.specs.declared.tile.Dims.{Dims}
-use Rattle.sj_base.specs.Array.{array, area}
-use Rattle.sj_base.proofs.Numbers.{none_more}
-use Rattle.sj_base.proofs.Tables.{table_from_items}
-use Rattle.sj_codelet.specs.declared.kernel.Kernel.TheVariants.{Load}
-use Rattle.sj_plan.specs.Interval.{part_len}
-use Rattle.sj_plan.specs.Window.{window}
-use Rattle.sj_plan.proofs.Tiling.{part_first-all}
-use Rattle.sj_meaning.specs.Table.{undivided}
-use Rattle.sj_lower.specs.Rows.{load_row}
-use Rattle.sj_base.specs.Mode.{access}
-use Rattle.sj_phases.specs.Rows.{own_task}
-use Rattle.sj_plan.specs.declared.parts.Parts.{Parts}
-use Rattle.sj_plan.specs.declared.rect.Rect.{Rect}
-use Rattle.sj_plan.specs.Parts.{Fits, places, children_count}
-use Rattle.sj_plan.specs.Rect.{child, children_of}
-use Rattle.sj_plan.proofs.Lists.{pushed_more}
-use Rattle.sj_lower.specs.Cells.{cells_from}
-use Rattle.sj_base.specs.declared.program.Delivery.{Delivery}
-use Rattle.sj_phases.specs.declared.expander.Expander.{Expander}
-use Rattle.sj_phases.specs.Does.{Does}
-use Rattle.sj_phases.specs.Expand.{Expansion, with_own, moved}
-use Rattle.sj_phases.proofs.Doing.{does-then, does-as, does-start, does-more, goes-own}
-use Rattle.sj_lower.specs.declared.rows.Placed.{Placed}
-use Rattle.sj_lower.specs.Adds.{cells_after}
-use Rattle.sj_lower.specs.Follows.{cells_by}
-use Rattle.sj_lower.specs.Step.{a_delivery}
-use Rattle.sj_lower.proofs.Places.{place_at, length-places, number-place_at, places-by_number}
+use Rattle.std.proofs.lemmas.{Bool.cases_lt, List.FromFn.get_or-map-range_with_len, List.FromFn.length-map-range_with_len, List.length-map, List.map-append, List.map-id, List.same_lists, Nat.div-add-mod', Nat.mul-le}
+use Rattle.sj_base.proofs.{Numbers.none_more, Tables.table_from_items}
+use Rattle.sj_plan.proofs.{Lists.pushed_more, Tiling.part_first-all}
+use Rattle.sj_phases.proofs.Doing.{does-as, does-more, does-start, does-then, goes-own}
+use Rattle.sj_lower.proofs.Places.{length-places, number-place_at, place_at, places-by_number}
 
 -- what f gives of the first n children, by their numbers
 abbrev pub first_children : {X : Type 0} → (ℕ × ℕ → X) → Parts → ℕ → List X

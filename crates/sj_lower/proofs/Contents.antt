@@ -1,12 +1,6 @@
 -- What cells hold after arrays were put into them.
-use Rattle.std.proofs.Common.{◌≡◌, Bool, true, false, cond, List, ◌∷◌, ◌++◌, refl, sym, ap, ◌∙◌}
-use Rattle.std.specs.List.{AllByRecursion, zip}
-use Rattle.sj_base.specs.declared.ids.Cell.{Cell}
-use Rattle.sj_base.specs.declared.program.Program.{Program}
-use Rattle.sj_base.specs.Array.{Array}
+use Rattle.sj_lower.proofs.Words.{AllByRecursion, ap, Array, Bool, Cell, cond, Contents, false, held_in, List, Program, refl, same_cell, sym, true, zip, ◌++◌, ◌∙◌, ◌∷◌, ◌≡◌}
 use Rattle.sj_base.proofs.SameIds.{same_cell-unlike}
-use Rattle.sj_core.specs.Program.{same_cell}
-use Rattle.sj_core.specs.Fold.{Contents, held_in}
 pub use Rattle.sj_base.specs.Ids.{task as task_at}
 pub use Rattle.sj_base.proofs.SameIds.{same_cell-is, same_cell-itself}
 pub use Rattle.sj_phases.proofs.Contents.{held-cons, held-same, held-other, contents_before, first_worker, contents-next}

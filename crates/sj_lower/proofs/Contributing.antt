@@ -1,47 +1,11 @@
 -- A task line with its contribution, in the program without phases: its child gets the unit first where it has no value.
-use Rattle.std.proofs.Common.{◌≡◌, ℕ, ◌+◌, Bool, true, false, cond, Option, Some, None, List, [], ◌∷◌, ◌++◌, length, map as each_of, filter, fold, refl, sym, ap, subst, ◌∙◌, inl, inr, arith, length-append}
-use Rattle.std.specs.List.{AllByRecursion, list_any, flat_map}
-use Rattle.std.proofs.lemmas.Bool.{cases_Bool, false≢true}
-use Rattle.std.proofs.lemmas.List.Elements.{All-contains, All-filter, All-from_recursion, recursion_from_All}
-use Rattle.sj_base.specs.declared.ids.Cell.{Cell}
-use Rattle.sj_base.specs.declared.ids.Line.{Line}
-use Rattle.sj_base.specs.declared.mode.Mode.{Mode}
-use Rattle.sj_base.specs.declared.mode.Reduction.{Reduction}
-use Rattle.sj_base.specs.declared.mode.Reduction.TheVariants.{Plus, Least}
-use Rattle.sj_base.specs.declared.tile.Dims.{Dims}
-use Rattle.sj_base.specs.declared.program.Program.{Program}
-use Rattle.sj_base.specs.Array.{Array, zeros}
-use Rattle.sj_base.specs.Mode.{is_redux}
-use Rattle.sj_base.proofs.Lists.{each-weaker, map-agree}
-use Rattle.sj_base.proofs.Numbers.{none_more}
-use Rattle.sj_codelet.specs.declared.kernel.Kernel.{Kernel}
-use Rattle.sj_codelet.specs.Kernel.{out}
-use Rattle.sj_codelet.specs.Laws.{unit_of}
-use Rattle.sj_core.specs.Program.{dims_of}
-use Rattle.sj_core.specs.Fold.{Contents, held_in, after_task}
+use Rattle.sj_lower.proofs.Words.{[], after_task, AllByRecursion, ap, AreLaid, arith, Array, Bool, by_number, Cell, cell_of, child_array, child_rect, child_unit, cond, Contents, contributed, Dims, dims_of, direct, each_of, false, filter, first_units, flat_map, fold, Handle, handle_at, has_value, HasTakenPlan, HaveCopies, held_in, init_row, inl, inr, is_redux, is_valued_child, IsPlacedAt, IsSoundTaskAt, Kernel, Laid, Least, length, length-append, Line, List, list_any, Mode, None, opening_for, Operand, operand_cell, Option, out, Parts, plain_rows, Plus, Program, rect_dims, Reduction, refl, root_at, RootState, run_task_at, seen_by, Some, subst, sym, task_block, task_row, TaskLine, true, unit_of, units, with_copies, zeros, ℕ, ◌++◌, ◌+◌, ◌∙◌, ◌∷◌, ◌≡◌}
+use Rattle.std.proofs.lemmas.{Bool.cases_Bool, Bool.false≢true, List.Elements.All-contains, List.Elements.All-filter, List.Elements.All-from_recursion, List.Elements.recursion_from_All}
+use Rattle.sj_base.proofs.{Lists.each-weaker, Lists.map-agree, Numbers.none_more}
 use Rattle.sj_core.proofs.Readiness.{Contains-filter}
-use Rattle.sj_plan.specs.declared.parts.Parts.{Parts}
-use Rattle.sj_plan.specs.Rect.{rect_dims}
 use Rattle.sj_plan.proofs.Lists.{each-filter}
-use Rattle.sj_meaning.specs.Statement.{Operand, TaskLine}
-use Rattle.sj_meaning.specs.State.{RootState, child_rect, is_valued_child}
-use Rattle.sj_meaning.specs.Meaning.{child_array, child_unit, seen_by}
-use Rattle.sj_meaning.specs.Numbers.{root_at, run_task_at}
-use Rattle.sj_phases.specs.Plain.{direct, units, plain_rows}
-use Rattle.sj_phases.specs.Expand.{first_units}
-use Rattle.sj_phases.specs.Rows.{init_row}
 use Rattle.sj_phases.proofs.Lists.{all-from}
-use Rattle.sj_lower.specs.Laid.{Laid, Handle, handle_at, cell_of, with_copies}
-use Rattle.sj_lower.specs.Step.{by_number, operand_cell, contributed, opening_for, task_row, task_block}
-use Rattle.sj_lower.specs.SoundAt.{IsPlacedAt, IsSoundTaskAt, has_value}
-use Rattle.sj_lower.specs.Whole.{HasTakenPlan, AreLaid, HaveCopies}
-use Rattle.sj_lower.proofs.Contents.{first_worker, task_at, contents_before, contents-next, held-same, held-other}
-use Rattle.sj_lower.proofs.Copying.{IsNoCopy, by_copies, copies-copied, laid-copied}
-use Rattle.sj_lower.proofs.Doing.{the_cell, IsReady, cell-size, kernel_there, ready-held, holds-task}
-use Rattle.sj_lower.proofs.Folding.{Stand, after_row, stand-append, contents-rows}
-use Rattle.sj_lower.proofs.Keeping.{HaveRoots, HasCells, differs, holds-later, root-kept}
-use Rattle.sj_lower.proofs.Operands.{Contributes, contributes-there, last-there, none-filter, one-unit, opening_by, placed-at, valued-at}
-use Rattle.sj_lower.proofs.Taken.{cell-inside, cell-is, cells-apart}
+use Rattle.sj_lower.proofs.{Contents.contents-next, Contents.contents_before, Contents.first_worker, Contents.held-other, Contents.held-same, Contents.task_at, Copying.by_copies, Copying.copies-copied, Copying.IsNoCopy, Copying.laid-copied, Doing.cell-size, Doing.holds-task, Doing.IsReady, Doing.kernel_there, Doing.ready-held, Doing.the_cell, Folding.after_row, Folding.contents-rows, Folding.Stand, Folding.stand-append, Keeping.differs, Keeping.HasCells, Keeping.HaveRoots, Keeping.holds-later, Keeping.root-kept, Operands.Contributes, Operands.contributes-there, Operands.last-there, Operands.none-filter, Operands.one-unit, Operands.opening_by, Operands.placed-at, Operands.valued-at, Taken.cell-inside, Taken.cell-is, Taken.cells-apart}
 
 -- ---- operands that are contributed to
 

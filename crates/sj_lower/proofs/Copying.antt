@@ -1,27 +1,8 @@
 -- The partial copies of a cell: cells of their own, as large as it.
-use Rattle.std.proofs.Common.{◌≡◌, ℕ, ◌+◌, ◌-◌, ◌<◌, ◌≤◌, ◌^◌, cond, Option, Some, None, List, [], ◌∷◌, ◌++◌, length, map as each_of, fold, refl, sym, ap, subst, ◌∙◌, inl, inr, arith, length-append}
-use Rattle.std.specs.Prelude.{◌⊎◌, set, replicate, unwrap_or}
-use Rattle.std.specs.List.{All}
-use Rattle.std.specs.Option.{is_some}
-use Rattle.std.proofs.lemmas.Bool.{cases_eq, cases_lt}
-use Rattle.std.proofs.lemmas.List.{get_or_append_left, get_or-append_right, get_or_past, get_or-set_same, get_or-set_other, get_or-replicate, length-set, length-replicate, set_past}
-use Rattle.std.proofs.lemmas.List.Elements.{All-map, All-append, All-set, All-replicate, All-get_or}
-use Rattle.sj_base.specs.declared.ids.Cell.{Cell}
-use Rattle.sj_base.specs.declared.tile.Dims.{Dims}
-use Rattle.sj_base.specs.declared.program.CellInfo.{CellInfo}
-use Rattle.sj_base.specs.Array.{area}
+use Rattle.sj_lower.proofs.Words.{[], a_root, All, ap, area, AreLaid, arith, Cell, CellInfo, child_cell, cond, copy_info, Dims, each_of, first_copy_in, fold, Handle, handle_at, handle_of, HasTakenPlan, HaveCopies, info_at, inl, inr, is_some, Laid, length, length-append, List, no_cell, no_cells, None, Option, Parts, places, refl, replicate, Root, set, Some, subst, sym, take, unwrap_or, with_copies, with_handle, with_new_plan, with_partials, ℕ, ◌++◌, ◌+◌, ◌-◌, ◌<◌, ◌^◌, ◌∙◌, ◌∷◌, ◌≡◌, ◌≤◌, ◌⊎◌}
+use Rattle.std.proofs.lemmas.{Bool.cases_eq, Bool.cases_lt, List.Elements.All-append, List.Elements.All-get_or, List.Elements.All-map, List.Elements.All-replicate, List.Elements.All-set, List.get_or-append_right, List.get_or-replicate, List.get_or-set_other, List.get_or-set_same, List.get_or_append_left, List.get_or_past, List.length-replicate, List.length-set, List.set_past}
 use Rattle.sj_base.proofs.SameIds.{cell_of_number}
-use Rattle.sj_core.specs.Program.{no_cell}
-use Rattle.sj_plan.specs.declared.parts.Parts.{Parts}
-use Rattle.sj_plan.specs.Parts.{places}
-use Rattle.sj_meaning.specs.Table.{a_root}
-use Rattle.sj_base.specs.declared.ids.Root.{Root}
-use Rattle.sj_lower.specs.Cells.{child_cell, copy_info, with_partials}
-use Rattle.sj_lower.specs.Laid.{Laid, Handle, handle_of, handle_at, with_new_plan, take, with_handle, no_cells, info_at, first_copy_in, with_copies}
-use Rattle.sj_lower.specs.Whole.{HasTakenPlan, AreLaid, HaveCopies}
-use Rattle.sj_lower.proofs.Growing.{Grows, row_at, grows-refl, grows-append, has-row, NoneHas, append-partials}
-use Rattle.sj_lower.proofs.Taken.{Old, New, old_or_new, none_isn't, some_is, laid-as, taken-as, taken-root, by_first}
-use Rattle.sj_lower.proofs.Places.{number-below}
+use Rattle.sj_lower.proofs.{Growing.append-partials, Growing.Grows, Growing.grows-append, Growing.grows-refl, Growing.has-row, Growing.NoneHas, Growing.row_at, Places.number-below, Taken.by_first, Taken.laid-as, Taken.New, Taken.none_isn't, Taken.Old, Taken.old_or_new, Taken.some_is, Taken.taken-as, Taken.taken-root}
 
 pub copies-none : (workers : ℕ) → HaveCopies workers no_cells
 copies-none workers = record {

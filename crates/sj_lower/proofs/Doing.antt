@@ -1,52 +1,12 @@
 -- A task of the program without phases leaves in its cells what the task line leaves in its children, by the roots' numbers.
-use Rattle.std.proofs.Common.{◌≡◌, ℕ, ◌+◌, Bool, true, false, cond, ◌&&◌, ◌||◌, Option, Some, None, List, [], ◌∷◌, ◌++◌, pos, length, get_or, map as each_of, filter, refl, sym, ap, ◌∙◌, arith}
-use Rattle.std.specs.Prelude.{not}
-use Rattle.std.specs.List.{AllByRecursion, zip, list_any}
-use Rattle.std.proofs.lemmas.Bool.{cond_both, false≢true, or_parts}
-use Rattle.std.proofs.lemmas.List.{get_or-map, length-map, length-replicate}
-use Rattle.std.proofs.lemmas.List.Elements.{recursion_from_All}
-use Rattle.std.proofs.lemmas.List.Folds.{list_any_at}
-use Rattle.std.proofs.lemmas.Simd.{map-map}
-use Rattle.sj_base.specs.declared.ids.Cell.{Cell}
-use Rattle.sj_base.specs.declared.ids.Line.{Line}
-use Rattle.sj_base.specs.declared.mode.Access.{Access}
-use Rattle.sj_base.specs.declared.mode.Mode.{Mode}
-use Rattle.sj_base.specs.declared.mode.Mode.TheVariants.{R, W, Scratch, Redux}
-use Rattle.sj_base.specs.declared.mode.Reduction.{Reduction}
-use Rattle.sj_base.specs.declared.tile.Dims.{Dims}
-use Rattle.sj_base.specs.declared.program.Lowered.{Lowered}
-use Rattle.sj_base.specs.declared.program.Program.{Program}
-use Rattle.sj_base.specs.Array.{Array, area, zeros}
-use Rattle.sj_base.specs.Mode.{is_read_only, is_redux, is_written}
-use Rattle.sj_base.proofs.Bools.{and_true}
-use Rattle.sj_base.proofs.Lists.{cons_same, each-weaker}
-use Rattle.sj_codelet.specs.declared.kernel.Kernel.{Kernel}
-use Rattle.sj_codelet.specs.Formal.{outputs_among}
-use Rattle.sj_codelet.specs.Kernel.{formals_of, fits, init_of, out}
-use Rattle.sj_codelet.specs.Laws.{unit_of}
+use Rattle.sj_lower.proofs.Words.{[], Access, access_of, after_task, AllByRecursion, ap, area, AreLaid, arith, Array, Bool, by_number, Cell, child_array, child_dims_at, child_rect, child_unit, clashes_at, cond, Contents, copy_of, Dims, dims_of, direct, direct_access, direct_mode, each_of, false, filter, fits, formals_of, found, get_or, has_value, held_in, init_of, is_aliased_at, is_read_only, is_redux, is_valued_child, is_written, IsPlacedAt, IsSoundTaskAt, IsWhole, Kernel, Laid, length, Line, List, list_any, Lowered, Mode, modes_fit_at, needs_value, None, not, Operand, operand_array_at, operand_cell, Option, out, outputs_among, pos, Program, R, rect_dims, Reduction, Redux, refl, results, root_at, RootState, run_task_at, same_cell, Scratch, seen_by, Some, sym, task_of, task_row, TaskLine, true, unit_of, W, worked_on, written_cells, written_of, zeros, zip, ℕ, ◌&&◌, ◌++◌, ◌+◌, ◌||◌, ◌∙◌, ◌∷◌, ◌≡◌}
+use Rattle.std.proofs.lemmas.{Bool.cond_both, Bool.false≢true, Bool.or_parts, List.Elements.recursion_from_All, List.Folds.list_any_at, List.get_or-map, List.length-map, List.length-replicate, Simd.map-map}
+use Rattle.sj_base.proofs.{Bools.and_true, Lists.cons_same, Lists.each-weaker}
 use Rattle.sj_codelet.proofs.NewArrays.{out-makes_tiles}
 use Rattle.sj_core.proofs.Combining.{unit-fills}
-use Rattle.sj_core.specs.Program.{same_cell, dims_of, task_of}
-use Rattle.sj_core.specs.Operands.{copy_of, found, worked_on, written_cells, results}
-use Rattle.sj_core.specs.Fold.{Contents, held_in, after_task}
-use Rattle.sj_plan.specs.Rect.{rect_dims}
-use Rattle.sj_plan.specs.Window.{IsWhole}
 use Rattle.sj_plan.proofs.Lists.{each-filter, each-map, each-of, map-filter, Ordered}
-use Rattle.sj_meaning.specs.Statement.{Operand, TaskLine}
-use Rattle.sj_meaning.specs.State.{RootState, child_rect, is_valued_child}
-use Rattle.sj_meaning.specs.Meaning.{child_array, child_unit, seen_by, written_of}
-use Rattle.sj_meaning.specs.Numbers.{root_at, operand_array_at, run_task_at}
-use Rattle.sj_meaning.specs.Sound.{needs_value}
-use Rattle.sj_phases.specs.Plain.{direct_mode, direct_access, direct}
 use Rattle.sj_phases.proofs.Good.{direct-redux}
-use Rattle.sj_lower.specs.Laid.{Laid}
-use Rattle.sj_lower.specs.Step.{by_number, operand_cell, access_of, task_row}
-use Rattle.sj_lower.specs.SoundAt.{IsPlacedAt, IsSoundTaskAt, child_dims_at, has_value, modes_fit_at, clashes_at, is_aliased_at}
-use Rattle.sj_lower.specs.Whole.{AreLaid}
-use Rattle.sj_lower.proofs.Contents.{first_worker, task_at, same_cell-itself}
-use Rattle.sj_lower.proofs.Elements.{child-whole}
-use Rattle.sj_lower.proofs.Keeping.{HasCells, HaveRoots, GivesAll, IsOther, same_child, cell-dims, holds-put_all, holds-later, holds-same}
-use Rattle.sj_lower.proofs.Writing.{outputs-written, all_dims, AreWhole, out_dims, out_whole, IsCall, call_of, fit_from_fits}
+use Rattle.sj_lower.proofs.{Contents.first_worker, Contents.same_cell-itself, Contents.task_at, Elements.child-whole, Keeping.cell-dims, Keeping.GivesAll, Keeping.HasCells, Keeping.HaveRoots, Keeping.holds-later, Keeping.holds-put_all, Keeping.holds-same, Keeping.IsOther, Keeping.same_child, Writing.all_dims, Writing.AreWhole, Writing.call_of, Writing.fit_from_fits, Writing.IsCall, Writing.out_dims, Writing.out_whole, Writing.outputs-written}
 
 -- ---- words
 

@@ -1,35 +1,9 @@
 -- The elements of a root's children: as windows of its array, and after a child is written.
-use Rattle.std.proofs.Common.{◌≡◌, ℕ, ◌+◌, ◌-◌, ◌*◌, ◌/◌, ◌%◌, ◌<◌, Bool, true, cond, Option, Some, None, List, ℤ, pos, ◌+ℤ◌, ◌*ℤ◌, length, get_or, unwrap_or, map, replicate, refl, sym, ap, ◌∙◌, arith}
-use Rattle.std.specs.Prelude.{not}
-use Rattle.std.specs.List.{list_all, range_with_len}
-use Rattle.std.specs.Option.{is_some, is_none}
+use Rattle.sj_lower.proofs.Words.{ap, area, arith, Array, array, Bool, child_array, child_elements, child_rect, cond, Dims, element, Fill, first_elements, Fits, get_or, has_no_value, holds, in_rect, integers_of, is_child, is_none, is_some, is_valued, is_valued_child, IsPlace, IsWhole, item, length, List, list_all, loadfill, map, None, not, Option, Parts, place_of, pos, range_with_len, read_rect, Rect, rect_dims, refl, replicate, root_array, RootState, Some, sym, table, true, unwrap_or, window, with_child, Within, wrap, zeros, ℕ, ℤ, ◌%◌, ◌*ℤ◌, ◌*◌, ◌+ℤ◌, ◌+◌, ◌-◌, ◌/◌, ◌<◌, ◌∙◌, ◌≡◌}
 use Rattle.std.proofs.Math.ListN.{get_or-map}
-use Rattle.std.proofs.lemmas.Bool.{false≢true, and_from, and_parts, cond-true, cond-false}
-use Rattle.std.proofs.lemmas.Bool.Decides.{nat_tests}
-use Rattle.std.proofs.lemmas.Int.{ints}
-use Rattle.std.proofs.lemmas.List.{map-id}
-use Rattle.std.proofs.lemmas.List.Elements.{All-replicate}
-use Rattle.std.proofs.lemmas.List.FromFn.{get_or-map-range_with_len}
-use Rattle.std.proofs.lemmas.List.Sums.{AllPass-from_list_all, list_all-from_AllPass}
-use Rattle.std.proofs.lemmas.Nat.{div_below, mod_below}
-use Rattle.std.proofs.lemmas.Simd.{map-map}
-use Rattle.sj_base.specs.declared.tile.Dims.{Dims}
-use Rattle.sj_base.specs.Array.{Array, array, area, element, zeros}
-use Rattle.sj_base.specs.Window.{item, table, read_rect, in_rect}
-use Rattle.sj_base.proofs.Numbers.{same_pair, some_factor}
-use Rattle.sj_base.proofs.Tables.{at-table, item-table, item_inside, length-table, table-same}
-use Rattle.sj_codelet.specs.Ring.{wrap}
-use Rattle.sj_codelet.specs.Equations.{loadfill}
-use Rattle.sj_plan.specs.declared.parts.Parts.{Parts}
-use Rattle.sj_plan.specs.declared.rect.Rect.{Rect}
-use Rattle.sj_plan.specs.Parts.{Fits, IsPlace}
-use Rattle.sj_plan.specs.Rect.{place_of, rect_dims, Within, holds}
-use Rattle.sj_plan.specs.Window.{window, IsWhole}
-use Rattle.sj_plan.proofs.Splitting.{part_len-positive, lies_alone}
-use Rattle.sj_plan.proofs.Windows.{tabulate, IsWhole-tabulate, element-tabulate, same_arrays, holds-true, holds-false}
-use Rattle.sj_meaning.specs.declared.job.Init.TheVariants.{Fill}
-use Rattle.sj_meaning.specs.State.{RootState, is_valued, has_no_value, is_child, child_rect, child_elements, is_valued_child}
-use Rattle.sj_meaning.specs.Meaning.{integers_of, root_array, child_array, with_child, first_elements}
+use Rattle.std.proofs.lemmas.{Bool.and_from, Bool.and_parts, Bool.cond-false, Bool.cond-true, Bool.Decides.nat_tests, Bool.false≢true, Int.ints, List.Elements.All-replicate, List.FromFn.get_or-map-range_with_len, List.map-id, List.Sums.AllPass-from_list_all, List.Sums.list_all-from_AllPass, Nat.div_below, Nat.mod_below, Simd.map-map}
+use Rattle.sj_base.proofs.{Numbers.same_pair, Numbers.some_factor, Tables.at-table, Tables.item-table, Tables.item_inside, Tables.length-table, Tables.table-same}
+use Rattle.sj_plan.proofs.{Splitting.lies_alone, Splitting.part_len-positive, Windows.element-tabulate, Windows.holds-false, Windows.holds-true, Windows.IsWhole-tabulate, Windows.same_arrays, Windows.tabulate}
 pub use Rattle.sj_plan.proofs.Repartitioning.{child-within}
 
 -- ---- tables

@@ -1,31 +1,8 @@
 -- Tasks that fill the cells of a plan's children, one child after another.
-use Rattle.std.proofs.Common.{◌≡◌, ℕ, true, false, ◌||◌, List, [], ◌∷◌, ℤ, pos, map as each_of, refl, ap, subst, ◌∙◌}
-use Rattle.std.specs.List.{flat_map}
+use Rattle.sj_lower.proofs.Words.{[], access, ap, Array, array, Cell, Contents, deliver_row, Dims, dims_of, each_of, false, fill_row, flat_map, gives_value, held_in, IsPlace, Kernel, Line, List, load_row, loadfill, Lowered, own_task, Parts, places, pos, Program, Rect, refl, same_cell, same_child_place, subst, true, W, window, zeros, ℕ, ℤ, ◌||◌, ◌∙◌, ◌∷◌, ◌≡◌}
 use Rattle.std.proofs.lemmas.List.Concat.{flat_map_single}
-use Rattle.sj_base.specs.declared.ids.Cell.{Cell}
-use Rattle.sj_base.specs.declared.ids.Line.{Line}
-use Rattle.sj_base.specs.declared.tile.Dims.{Dims}
-use Rattle.sj_base.specs.declared.mode.Mode.TheVariants.{W}
-use Rattle.sj_base.specs.declared.program.Lowered.{Lowered}
-use Rattle.sj_base.specs.declared.program.Program.{Program}
-use Rattle.sj_base.specs.Array.{Array, array, zeros}
-use Rattle.sj_codelet.specs.declared.kernel.Kernel.{Kernel}
-use Rattle.sj_codelet.specs.Equations.{loadfill}
-use Rattle.sj_core.specs.Program.{same_cell, dims_of}
-use Rattle.sj_core.specs.Proper.{gives_value}
-use Rattle.sj_core.specs.Fold.{Contents, held_in}
-use Rattle.sj_plan.specs.declared.parts.Parts.{Parts}
-use Rattle.sj_plan.specs.declared.rect.Rect.{Rect}
-use Rattle.sj_plan.specs.Parts.{IsPlace, places}
-use Rattle.sj_plan.specs.Paste.{same_child_place}
-use Rattle.sj_plan.specs.Window.{window}
-use Rattle.sj_plan.proofs.Lists.{each-places, any-places, any-map, any-flat_map}
-use Rattle.sj_base.specs.Mode.{access}
-use Rattle.sj_phases.specs.Rows.{own_task}
-use Rattle.sj_lower.specs.Rows.{load_row, fill_row, deliver_row}
-use Rattle.sj_lower.proofs.Contents.{held-same, held-other, same_cell-is, same_cell-itself}
-use Rattle.sj_lower.proofs.Folding.{after_row, after_rows, one_gives, IsBlock, IsBeside, IsAlone, blocks-others, blocks-fill}
-use Rattle.sj_lower.proofs.Places.{place-itself}
+use Rattle.sj_plan.proofs.Lists.{any-flat_map, any-map, any-places, each-places}
+use Rattle.sj_lower.proofs.{Contents.held-other, Contents.held-same, Contents.same_cell-is, Contents.same_cell-itself, Folding.after_row, Folding.after_rows, Folding.blocks-fill, Folding.blocks-others, Folding.IsAlone, Folding.IsBeside, Folding.IsBlock, Folding.one_gives, Places.place-itself}
 
 -- ---- all children of a plan
 

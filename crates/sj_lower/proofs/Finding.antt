@@ -1,22 +1,11 @@
 -- The first operand that is contributed to, and that there is no other one.
-use Rattle.std.proofs.Common.{◌≡◌, ℕ, ◌+◌, ◌<◌, ◌≤◌, Bool, true, false, cond, not, ◌&&◌, ◌||◌, List, [], ◌∷◌, ◌++◌, length, map, take, drop, get_or, refl, sym, ap, ◌∙◌, arith}
-use Rattle.std.specs.List.{filter, list_any, count_by}
-use Rattle.std.proofs.lemmas.Bool.{or_left}
-use Rattle.std.proofs.lemmas.List.{append-nil, map-append, take_all, take-append-drop, drop_more, nil_from_length}
-use Rattle.std.proofs.lemmas.List.Elements.{filter-append, filter_more}
-use Rattle.std.proofs.lemmas.List.Sums.{length-filter, sum_by-le-sum_by}
-use Rattle.sj_base.specs.declared.mode.Mode.{Mode}
-use Rattle.sj_base.specs.Mode.{is_redux, is_commute, is_written}
-use Rattle.sj_base.proofs.Bools.{implied, or_false, same_test, tally}
-use Rattle.sj_base.proofs.Lists.{list_any-filter, counted_some}
-use Rattle.sj_core.proofs.Modes.{every_mode}
-use Rattle.sj_plan.proofs.Lists.{map-filter, any-implied}
+use Rattle.sj_lower.proofs.Words.{[], ap, arith, Bool, cond, count_by, drop, false, filter, get_or, is_commute, is_contributed, is_redux, is_unordered, is_written, length, List, list_any, map, Mode, not, Operand, operand_at, refl, sym, true, written_of, ℕ, ◌&&◌, ◌++◌, ◌+◌, ◌<◌, ◌||◌, ◌∙◌, ◌∷◌, ◌≡◌, ◌≤◌}
 use Rattle.sj_meaning.specs.declared.job.Operand.{Operand as Access}
-use Rattle.sj_meaning.specs.Statement.{Operand}
-use Rattle.sj_meaning.specs.Meaning.{written_of}
-use Rattle.sj_meaning.specs.Numbers.{operand_at}
-use Rattle.sj_meaning.specs.Sound.{is_unordered}
-use Rattle.sj_lower.specs.Adds.{is_contributed}
+use Rattle.std.proofs.lemmas.{Bool.or_left, List.append-nil, List.drop_more, List.Elements.filter-append, List.Elements.filter_more, List.map-append, List.nil_from_length, List.Sums.length-filter, List.Sums.sum_by-le-sum_by, List.take-append-drop, List.take_all}
+use Rattle.sj_base.proofs.{Bools.implied, Bools.or_false, Bools.same_test, Bools.tally, Lists.counted_some, Lists.list_any-filter}
+use Rattle.sj_core.proofs.Modes.{every_mode}
+use Rattle.sj_plan.proofs.Lists.{any-implied, map-filter}
+use Rattle.std.proofs.Common.{take}
 
 -- ---- lists
 

@@ -1,20 +1,8 @@
 -- What cells hold after tasks that stand one after another in a program.
-use Rattle.std.proofs.Common.{◌≡◌, ℕ, ◌+◌, Bool, true, false, ◌||◌, List, [], ◌∷◌, length, refl, sym, ap, subst, ◌∙◌, inl, inr, arith}
-use Rattle.std.specs.List.{AllByRecursion, flat_map, list_any}
-use Rattle.std.proofs.lemmas.Bool.{cases_Bool, false≢true, false_from_ne_true, or_parts}
-use Rattle.sj_base.specs.declared.ids.Cell.{Cell}
-use Rattle.sj_base.specs.declared.program.Lowered.{Lowered}
-use Rattle.sj_base.specs.declared.program.Program.{Program}
-use Rattle.sj_base.specs.Array.{Array}
-use Rattle.sj_base.specs.Ids.{task}
-use Rattle.sj_base.proofs.Bools.{or_first}
-use Rattle.sj_base.proofs.Numbers.{length_more}
-use Rattle.sj_codelet.specs.Kernel.{out}
-use Rattle.sj_core.specs.Program.{same_cell, task_of}
-use Rattle.sj_core.specs.Proper.{HasValueBefore, gives_value}
-use Rattle.sj_core.specs.Fold.{Contents, held_in, after_task}
+use Rattle.sj_lower.proofs.Words.{[], after_task, AllByRecursion, ap, arith, Array, Bool, Cell, Contents, false, flat_map, gives_value, HasValueBefore, held_in, inl, inr, length, List, list_any, Lowered, out, Program, refl, same_cell, same_child_place, subst, sym, task, task_of, true, ℕ, ◌+◌, ◌||◌, ◌∙◌, ◌∷◌, ◌≡◌}
+use Rattle.std.proofs.lemmas.Bool.{cases_Bool, false_from_ne_true, false≢true, or_parts}
+use Rattle.sj_base.proofs.{Bools.or_first, Numbers.length_more}
 use Rattle.sj_phases.proofs.Contents.{first_worker}
-use Rattle.sj_plan.specs.Paste.{same_child_place}
 use Rattle.sj_lower.proofs.Places.{place-is, place-itself}
 pub use Rattle.sj_phases.proofs.Folding.{Stand, stand-there, stand-append, after_row, after_rows, contents-rows, after_rows-append, later}
 

@@ -1,23 +1,6 @@
 -- The statements of a job, one after another: the cells of the program without phases agree with the roots before each.
-use Rattle.std.proofs.Common.{ℕ, ◌+◌, Bool, List, [], ◌∷◌, ◌++◌, length, map, fold}
-use Rattle.sj_base.specs.declared.ids.Cell.{Cell}
-use Rattle.sj_base.specs.declared.program.Lowered.{Lowered}
-use Rattle.sj_base.specs.declared.program.Program.{Program}
-use Rattle.sj_codelet.specs.declared.kernel.Kernel.{Kernel}
-use Rattle.sj_base.specs.declared.ids.Line.{Line}
-use Rattle.sj_meaning.specs.Act.{Act, Statement, Register as Registers, Plan as Plans, Task as Tasks}
-use Rattle.sj_meaning.specs.State.{RootState}
-use Rattle.sj_meaning.specs.Numbers.{apply_at}
-use Rattle.sj_phases.specs.Plain.{OpenReductions, plain_rows, open_at}
-use Rattle.sj_lower.specs.Laid.{Laid, with_handle, with_copies}
-use Rattle.sj_lower.specs.SoundAt.{IsSoundAt, AreSoundAt}
-use Rattle.sj_lower.specs.Step.{Lookup, by_number, operand_cell, contributed, step_of}
-use Rattle.sj_lower.proofs.Agrees.{Agrees, AreOpenChildren}
-use Rattle.sj_lower.proofs.Copying.{copies-more, take-more}
-use Rattle.sj_lower.proofs.Folding.{Stand, stand-append}
-use Rattle.sj_lower.proofs.Growing.{Grows, grows-refl, grows-trans}
-use Rattle.sj_lower.proofs.Keeping.{HasCells}
-use Rattle.sj_lower.proofs.Stepping.{agrees-step}
+use Rattle.sj_lower.proofs.Words.{[], Act, apply_at, AreSoundAt, Bool, by_number, Cell, contributed, fold, IsSoundAt, Kernel, Laid, length, Line, List, Lookup, Lowered, map, open_at, OpenReductions, operand_cell, plain_rows, Plans, Program, Registers, RootState, Statement, step_of, Tasks, with_copies, with_handle, ℕ, ◌++◌, ◌+◌, ◌∷◌}
+use Rattle.sj_lower.proofs.{Agrees.Agrees, Agrees.AreOpenChildren, Copying.copies-more, Copying.take-more, Folding.Stand, Folding.stand-append, Growing.Grows, Growing.grows-refl, Growing.grows-trans, Keeping.HasCells, Stepping.agrees-step}
 
 -- ---- cells are only added
 

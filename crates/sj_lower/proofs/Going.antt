@@ -1,32 +1,9 @@
 -- A job lowered one statement after another, up to its end.
-use Rattle.std.proofs.Common.{◌≡◌, ℕ, ◌<◌, ◌≤◌, Option, Some, None, List, [], ◌∷◌, length, map, fold, vec_len, sym, ap, subst, ◌∙◌, arith}
-use Rattle.std.specs.List.{range_with_len}
-use Rattle.sj_base.specs.declared.ids.Cell.{Cell}
-use Rattle.sj_base.specs.declared.ids.Line.{Line}
-use Rattle.sj_base.specs.declared.program.Program.{Program}
+use Rattle.sj_lower.proofs.Words.{[], Act, act_at, AddsAct, ap, apply_at, arith, by_number, Cell, cells_above, cells_after, cells_below, closed, Does, expanded, Expander, Expansion, fold, Goes, HasAt, HasNext, IsFullWith, IsLate, IsOverLimit, Kept, Laid, last_block, late_cells, late_tasks, Layout, LeavesStatements, length, Line, List, LoweringProgress, LoweringStep, LowerRefusal, map, MayComeInTurn, MayComeNext, most, no_cells, no_line, None, nothing, Option, over_after, Program, program_by, program_from, range_with_len, Refusal, RootState, Some, StandsAt, step_of, steps_at, StepsAt, subst, sym, Table, TaskBlock, tasks_above, TooManyTasks, vec_len, ℕ, ◌<◌, ◌∙◌, ◌∷◌, ◌≡◌, ◌≤◌}
+use Rattle.sj_lower.specs.declared.lower.LowerRefusal.TheVariants.{OutOfMemory, TooManyCells}
 use Rattle.sj_base.proofs.Numbers.{none_first}
-use Rattle.sj_job.specs.Reading.{Refusal}
-use Rattle.sj_meaning.specs.declared.job.Statement.{Statement as Kept}
-use Rattle.sj_meaning.specs.Act.{Act}
-use Rattle.sj_meaning.specs.State.{RootState}
-use Rattle.sj_meaning.specs.Numbers.{act_at, apply_at}
-use Rattle.sj_meaning.specs.Table.{Table}
-use Rattle.sj_phases.specs.declared.expander.Expander.{Expander}
-use Rattle.sj_phases.specs.Block.{TaskBlock}
-use Rattle.sj_phases.specs.Does.{StandsAt, HasAt, over_after, Does}
-use Rattle.sj_phases.specs.Expand.{Expansion, nothing, closed, expanded, cells_below, last_block, program_from, most}
 use Rattle.sj_phases.proofs.Doing.{own-nothing}
-use Rattle.sj_lower.specs.declared.layout.Layout.{Layout}
-use Rattle.sj_lower.specs.declared.lower.LowerRefusal.{LowerRefusal}
-use Rattle.sj_lower.specs.declared.lower.LowerRefusal.TheVariants.{TooManyCells, TooManyTasks, OutOfMemory}
-use Rattle.sj_lower.specs.declared.lower.LoweringProgress.{LoweringProgress}
-use Rattle.sj_lower.specs.Adds.{StepsAt, MayComeNext, HasNext, Goes, AddsAct, cells_after}
-use Rattle.sj_lower.specs.Laid.{Laid, no_cells}
-use Rattle.sj_lower.specs.Limits.{late_tasks, late_cells}
-use Rattle.sj_lower.specs.Progress.{no_line, IsFullWith, IsOverLimit, IsLate}
-use Rattle.sj_lower.specs.Running.{MayComeInTurn, LeavesStatements, steps_at}
-use Rattle.sj_lower.specs.Step.{LoweringStep, by_number, step_of, program_by, cells_above, tasks_above}
-use Rattle.sj_lower.proofs.Running.{leaves-start, leaves-next, leaves-full, leaves-none}
+use Rattle.sj_lower.proofs.Running.{leaves-full, leaves-next, leaves-none, leaves-start}
 
 -- the limit that steps exceed, and the line that first does
 abbrev pub late_by : ℕ → List LoweringStep → Option Refusal

@@ -1,68 +1,12 @@
 -- Each task of the program without phases is as a proper program has it, by the roots' numbers.
-use mathlib.Core.List.{map-map}
-use Rattle.std.proofs.Common.{◌≡◌, ℕ, ◌+◌, ◌<◌, ◌≤◌, Bool, true, false, not, ◌&&◌, ◌||◌, List, [], ◌∷◌, ◌++◌, ℤ, pos, length, map as each_of, refl, sym, ap, subst, ◌∙◌, inl, inr, arith, Some}
-use Rattle.std.specs.Prelude.{Contains}
-use Rattle.std.specs.List.{All, AllPairs, AllByRecursion, flat_map, list_all, list_any}
-use Rattle.std.specs.Int.RustNames.{int_le}
-use Rattle.std.proofs.lemmas.Bool.{false≢true, and_from, cond_both, le-leb, cases_lt, or_cases, or_parts}
-use Rattle.std.proofs.lemmas.Bool.Decides.{Decides-eqb}
-use Rattle.std.proofs.lemmas.List.Elements.{All-contains, All-from_recursion, All-map}
-use Rattle.std.proofs.lemmas.List.Kept.{AllPairs-cons, AllPairs-filter}
-use Rattle.std.proofs.lemmas.Option.{same_Some}
-use Rattle.sj_base.specs.declared.ids.Cell.{Cell}
-use Rattle.sj_base.specs.declared.ids.Line.{Line}
-use Rattle.sj_base.specs.declared.tile.Dims.{Dims}
-use Rattle.sj_base.specs.declared.mode.Mode.{Mode}
-use Rattle.sj_base.specs.declared.mode.Mode.TheVariants.{R, W, RW, Scratch}
-use Rattle.sj_base.specs.declared.mode.Reduction.{Reduction}
-use Rattle.sj_base.specs.declared.mode.Reduction.TheVariants.{Plus, Least}
-use Rattle.sj_base.specs.declared.mode.Access.{Access}
-use Rattle.sj_base.specs.declared.program.Lowered.{Lowered}
-use Rattle.sj_base.specs.declared.program.Program.{Program}
-use Rattle.sj_base.specs.Array.{array, area, element}
-use Rattle.sj_base.specs.Mode.{is_read_only, is_redux, is_scratch, reads_value, access}
-use Rattle.sj_base.proofs.Lists.{map-agree}
-use Rattle.sj_base.proofs.Numbers.{length_more, none_more}
-use Rattle.sj_base.proofs.Tables.{length-table}
-use Rattle.sj_codelet.specs.declared.kernel.Kernel.{Kernel}
-use Rattle.sj_codelet.specs.declared.kernel.Kernel.TheVariants.{Load, LoadFill, Paste as PasteKernel, Deliver}
-use Rattle.sj_codelet.specs.Kernel.{kernel_of, fits, init_of}
+use Rattle.sj_lower.proofs.Words.{[], Access, access, access_of, All, AllByRecursion, AllPairs, ap, area, AreLaid, arith, array, BeginOnce, Bool, by_number, Cell, cell_of, child, child_dims_at, clashes_at, Contains, Contents, Deliver, deliver_row, Dims, dims_of, direct, direct_access, direct_mode, each_of, element, false, Fill, fill_arguments, fill_row, fits, FitsCodelet, flat_map, gives_value, HasTakenPlan, HasValueBefore, Init, init_of, init_row, inl, inr, int_le, is_aliased_at, is_first, is_read_only, is_redux, is_scratch, IsPasteBetween, IsPlace, IsPlacedAt, IsPlain, IsSoundTaskAt, IsUnaliased, Kernel, kernel_of, Laid, Least, length, Line, List, list_all, list_any, Load, load_row, load_rows, LoadFill, Lowered, MayHaveModes, Mode, needs_value, not, Nothing, Operand, own_modes, own_task, Parts, Paste, paste_arguments, paste_copy, paste_row, PasteKernel, pastes_of, pastes_to, places, PlanFits, Plus, pos, Program, R, reads_value, Rect, rect_dims, Reduction, refl, root_at, RootState, RW, same_cell, Scratch, Some, subst, sym, task_of, task_row, TaskLine, true, Values, W, window, ℕ, ℤ, ◌&&◌, ◌++◌, ◌+◌, ◌<◌, ◌||◌, ◌∙◌, ◌∷◌, ◌≡◌, ◌≤◌}
+use Rattle.std.proofs.lemmas.{Bool.and_from, Bool.cases_lt, Bool.cond_both, Bool.Decides.Decides-eqb, Bool.false≢true, Bool.le-leb, Bool.or_cases, Bool.or_parts, List.Elements.All-contains, List.Elements.All-from_recursion, List.Elements.All-map, List.Kept.AllPairs-cons, List.Kept.AllPairs-filter, Option.same_Some}
+use Rattle.sj_base.proofs.{Lists.map-agree, Numbers.length_more, Numbers.none_more, Tables.length-table}
 use Rattle.sj_codelet.proofs.Table.{kernel_of-codelet_of}
-use Rattle.sj_core.specs.Program.{same_cell, dims_of, task_of}
-use Rattle.sj_core.specs.Proper.{HasValueBefore, FitsCodelet, MayHaveModes, IsPlain, IsUnaliased, gives_value, own_modes}
-use Rattle.sj_core.specs.Fold.{Contents}
-use Rattle.sj_plan.specs.declared.parts.Parts.{Parts}
-use Rattle.sj_plan.specs.declared.paste.Paste.{Paste}
-use Rattle.sj_plan.specs.declared.rect.Rect.{Rect}
-use Rattle.sj_plan.specs.Parts.{IsPlace, Fits as PlanFits, places}
-use Rattle.sj_plan.specs.Paste.{paste_copy, is_first, pastes_of, pastes_to, IsPasteBetween}
-use Rattle.sj_plan.specs.Pieces.{BeginOnce}
-use Rattle.sj_plan.specs.Rect.{child, rect_dims}
-use Rattle.sj_plan.specs.Window.{window}
 use Rattle.sj_plan.proofs.Lists.{each-map, each-places, pairs-from_ordered}
-use Rattle.sj_meaning.specs.declared.job.Init.{Init}
-use Rattle.sj_meaning.specs.declared.job.Init.TheVariants.{Values, Fill, Nothing}
-use Rattle.sj_meaning.specs.Statement.{Operand, TaskLine}
-use Rattle.sj_meaning.specs.State.{RootState}
-use Rattle.sj_meaning.specs.Numbers.{root_at}
-use Rattle.sj_meaning.specs.Sound.{needs_value}
-use Rattle.sj_phases.specs.Plain.{direct_mode, direct_access, direct}
-use Rattle.sj_phases.specs.Rows.{own_task, init_row}
-use Rattle.sj_phases.proofs.Lists.{all-from}
-use Rattle.sj_phases.proofs.Good.{ReadOnly}
-use Rattle.sj_lower.specs.Laid.{Laid, cell_of}
-use Rattle.sj_lower.specs.Rows.{fill_arguments, load_row, fill_row, load_rows, paste_arguments, paste_row, deliver_row}
-use Rattle.sj_lower.specs.SoundAt.{IsPlacedAt, IsSoundTaskAt, child_dims_at, clashes_at, is_aliased_at}
-use Rattle.sj_lower.specs.Step.{by_number, access_of, task_row}
-use Rattle.sj_lower.specs.Whole.{AreLaid, HasTakenPlan}
-use Rattle.sj_lower.proofs.Contents.{task_at, same_cell-is}
-use Rattle.sj_lower.proofs.Doing.{the_cell, the_access, cell-size, kernel_there}
-use Rattle.sj_lower.proofs.Modes.{plain-modes}
-use Rattle.sj_lower.proofs.Operands.{both-read, contributes-there, none-passes, placed-at, valued-at}
-use Rattle.sj_lower.proofs.Folding.{Stand, stand-append, later}
-use Rattle.sj_lower.proofs.Keeping.{HasCells, HaveRoots}
-use Rattle.sj_lower.proofs.Pasting.{GoesTo, pastes-begin, pastes-go, pastes-between, paste-gives, rows_to, rows-by_child}
-use Rattle.sj_lower.proofs.Taken.{cell-inside}
+use Rattle.sj_phases.proofs.{Good.ReadOnly, Lists.all-from}
+use Rattle.sj_lower.proofs.{Contents.same_cell-is, Contents.task_at, Doing.cell-size, Doing.kernel_there, Doing.the_access, Doing.the_cell, Folding.later, Folding.Stand, Folding.stand-append, Keeping.HasCells, Keeping.HaveRoots, Modes.plain-modes, Operands.both-read, Operands.contributes-there, Operands.none-passes, Operands.placed-at, Operands.valued-at, Pasting.GoesTo, Pasting.paste-gives, Pasting.pastes-begin, Pasting.pastes-between, Pasting.pastes-go, Pasting.rows-by_child, Pasting.rows_to, Taken.cell-inside}
+use mathlib.Core.List.{map-map}
 
 -- a task of the program is one that it may have at that number
 pub record IsGood (p : Program) (n : ℕ) (l : Lowered) : Type 0 where

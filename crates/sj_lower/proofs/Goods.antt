@@ -1,52 +1,8 @@
 -- Each task that a statement gives without phases is as a proper program has it.
-use Rattle.std.proofs.Common.{◌≡◌, ℕ, ◌+◌, ◌≤◌, Bool, true, false, cond, List, [], ◌∷◌, ◌++◌, length, map as each_of, fold, refl, sym, ap, subst, ◌∙◌, inl, inr, arith}
-use Rattle.std.specs.Prelude.{Contains}
-use Rattle.std.specs.List.{flat_map, list_any}
+use Rattle.sj_lower.proofs.Words.{[], Act, active_cells, ap, AreLaid, arith, Bool, by_number, Cell, cell_of, child, cond, Contains, contributed, deliver_row, Dims, direct, each_of, false, first_units, flat_map, fold, gives_value, HasTakenPlan, HasValueBefore, Init, init_of, init_row, inl, inr, Invalidates, is_redux, is_valued, is_valued_child, IsPlacedAt, IsSoundAt, IsSoundTaskAt, Kernel, Laid, length, Line, List, list_any, load_rows, Lowered, opening_for, OpenReductions, Operand, operand_cell, Parts, paste_row, pastes_of, PhaseOpening, places, plain_rows, Plans, Prints, Program, Reduces, refl, Registers, root_at, RootState, same_parts, step_of, subst, sym, take, task_block, task_row, TaskLine, Tasks, true, Unregisters, with_copies, with_handle, ℕ, ◌++◌, ◌+◌, ◌∙◌, ◌∷◌, ◌≡◌, ◌≤◌}
 use Rattle.std.proofs.lemmas.Bool.{cases_Bool, cond_both, false≢true}
-use Rattle.sj_base.specs.declared.ids.Cell.{Cell}
-use Rattle.sj_base.specs.declared.ids.Line.{Line}
-use Rattle.sj_base.specs.declared.tile.Dims.{Dims}
-use Rattle.sj_base.specs.declared.program.Lowered.{Lowered}
-use Rattle.sj_base.specs.declared.program.Program.{Program}
-use Rattle.sj_base.specs.Mode.{is_redux}
-use Rattle.sj_codelet.specs.declared.kernel.Kernel.{Kernel}
-use Rattle.sj_codelet.specs.Kernel.{init_of}
-use Rattle.sj_core.specs.Proper.{HasValueBefore, gives_value}
-use Rattle.sj_plan.specs.declared.parts.Parts.{Parts}
-use Rattle.sj_plan.specs.Parts.{places}
-use Rattle.sj_plan.specs.Paste.{pastes_of}
-use Rattle.sj_plan.specs.Rect.{child}
 use Rattle.sj_plan.proofs.Lists.{each-map, each-places}
-use Rattle.sj_meaning.specs.declared.job.Init.{Init}
-use Rattle.sj_meaning.specs.Act.{Act, Register as Registers, Plan as Plans, Redux as Reduces, Task as Tasks, Print as Prints, Invalidate as Invalidates, Unregister as Unregisters}
-use Rattle.sj_meaning.specs.Statement.{Operand, TaskLine}
-use Rattle.sj_meaning.specs.State.{RootState, is_valued, is_valued_child}
-use Rattle.sj_meaning.specs.Numbers.{root_at}
-use Rattle.sj_phases.specs.declared.phase.PhaseOpening.{PhaseOpening}
-use Rattle.sj_phases.specs.Rows.{init_row}
-use Rattle.sj_phases.specs.Expand.{first_units}
-use Rattle.sj_phases.specs.Plain.{OpenReductions, direct, plain_rows}
-use Rattle.sj_lower.specs.Cells.{same_parts}
-use Rattle.sj_lower.specs.Laid.{Laid, cell_of, take, with_handle, with_copies}
-use Rattle.sj_lower.specs.Rows.{load_rows, paste_row, deliver_row}
-use Rattle.sj_lower.specs.SoundAt.{IsPlacedAt, IsSoundAt, IsSoundTaskAt}
-use Rattle.sj_lower.specs.Step.{by_number, contributed, opening_for, operand_cell, task_row, task_block, active_cells, step_of}
-use Rattle.sj_lower.specs.Whole.{HasTakenPlan, AreLaid}
-use Rattle.sj_lower.proofs.Contents.{task_at, contents_before}
-use Rattle.sj_lower.proofs.Contributing.{fold-handles, roots-copied}
-use Rattle.sj_lower.proofs.Doing.{kernel_there, the_cell}
-use Rattle.sj_lower.proofs.Elements.{valued-child}
-use Rattle.sj_lower.proofs.Filling.{gives_own}
-use Rattle.sj_lower.proofs.Folding.{Stand}
-use Rattle.sj_lower.proofs.Following.{IsAt}
-use Rattle.sj_lower.proofs.Good.{AreGood, IsGood, cell-there, each-load, good-all, good_load, good_fill, good_deliver, good_init, good_pastes, good_task}
-use Rattle.sj_lower.proofs.Keeping.{HasCells, HaveRoots, cell-dims, differs, holds-later}
-use Rattle.sj_lower.proofs.Opens.{kept-cell, takes-planned, takes-registered}
-use Rattle.sj_lower.proofs.Operands.{Contributes, contributes-there, last-there, none-filter, none-passes, one-unit, only-last, placed-at}
-use Rattle.sj_lower.proofs.Orderly.{plain-child}
-use Rattle.sj_lower.proofs.Places.{parts-itself}
-use Rattle.sj_lower.proofs.Stepping.{keeps-step, direct-loads, plain-plan, direct-delivers}
-use Rattle.sj_lower.proofs.Taken.{cells-apart}
+use Rattle.sj_lower.proofs.{Contents.contents_before, Contents.task_at, Contributing.fold-handles, Contributing.roots-copied, Doing.kernel_there, Doing.the_cell, Elements.valued-child, Filling.gives_own, Folding.Stand, Following.IsAt, Good.AreGood, Good.cell-there, Good.each-load, Good.good-all, Good.good_deliver, Good.good_fill, Good.good_init, Good.good_load, Good.good_pastes, Good.good_task, Good.IsGood, Keeping.cell-dims, Keeping.differs, Keeping.HasCells, Keeping.HaveRoots, Keeping.holds-later, Opens.kept-cell, Opens.takes-planned, Opens.takes-registered, Operands.Contributes, Operands.contributes-there, Operands.last-there, Operands.none-filter, Operands.none-passes, Operands.one-unit, Operands.only-last, Operands.placed-at, Orderly.plain-child, Places.parts-itself, Stepping.direct-delivers, Stepping.direct-loads, Stepping.keeps-step, Stepping.plain-plan, Taken.cells-apart}
 
 -- ---- loads
 

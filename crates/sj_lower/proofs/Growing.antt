@@ -1,10 +1,6 @@
 -- Cells are only added, and a cell that gets partial copies keeps them.
-use Rattle.std.proofs.Common.{◌≡◌, ℕ, zero, suc, ◌<◌, ◌≤◌, Some, None, List, [], ◌∷◌, ◌++◌, length, get_or, refl, sym, ap, ◌∙◌, inl, inr, arith, length-append}
-use Rattle.std.specs.Prelude.{◌⊎◌}
+use Rattle.sj_lower.proofs.Words.{[], ap, arith, Cell, CellInfo, get_or, inl, inr, length, length-append, List, no_cell, None, refl, Some, suc, sym, zero, ℕ, ◌++◌, ◌<◌, ◌∙◌, ◌∷◌, ◌≡◌, ◌≤◌, ◌⊎◌}
 use Rattle.std.proofs.lemmas.List.{get_or_append_left}
-use Rattle.sj_base.specs.declared.ids.Cell.{Cell}
-use Rattle.sj_base.specs.declared.program.CellInfo.{CellInfo}
-use Rattle.sj_core.specs.Program.{no_cell}
 use Rattle.sj_lower.proofs.Taken.{none_isn't}
 
 abbrev pub row_at : List CellInfo → ℕ → CellInfo

@@ -1,52 +1,9 @@
 -- The deliveries of the program without phases hand over the children of what the print statements find, in order.
-use Rattle.std.proofs.Common.{◌≡◌, ℕ, ◌+◌, Bool, true, cond, List, [], ◌∷◌, ◌++◌, length, get_or, map as each_of, fold, refl, sym, ap, subst, ◌∙◌, arith, length-append, append_assoc}
-use Rattle.std.specs.List.{AllByRecursion, zip, range_with_len}
-use Rattle.std.proofs.lemmas.Bool.{cond_both}
-use Rattle.std.proofs.lemmas.List.{append-nil, map-append}
-use Rattle.std.proofs.lemmas.Simd.{map-map}
-use Rattle.sj_base.specs.declared.ids.Cell.{Cell}
-use Rattle.sj_base.specs.declared.ids.Line.{Line}
-use Rattle.sj_base.specs.declared.ids.Root.{Root as RootNumber}
-use Rattle.sj_base.specs.declared.program.Delivery.{Delivery}
-use Rattle.sj_base.specs.declared.program.Lowered.{Lowered}
-use Rattle.sj_base.specs.declared.program.Program.{Program}
-use Rattle.sj_base.specs.Array.{Array}
+use Rattle.sj_lower.proofs.Words.{[], a_delivery, a_root, Act, active_cells, AllByRecursion, ap, append_assoc, apply_at, AreSoundAt, arith, Array, Bool, by_number, Cell, cell_of, child, closing, cond, Contents, contributed, data_operands, deliver_row, Delivery, each_of, fold, get_or, given, handed_over, held_before, held_in, is_valued, IsPlace, IsSoundAt, Kernel, Laid, length, length-append, Line, List, Lowered, moved, open_at, OpenReductions, operand_cell, out, Parts, paste_row, pastes_of, place_of, places, plain_next, plain_rows, Plainly, plan_block, Plans, print_block, printed_at, Prints, prints_at, Program, range_with_len, refl, Registers, root_array, root_at, RootNumber, RootState, same_parts, Statement, step_of, subst, sym, take, task_of, TaskBlock, Tasks, true, units, window, with_handle, worked_on, zip, ℕ, ◌++◌, ◌+◌, ◌∙◌, ◌∷◌, ◌≡◌}
+use Rattle.std.proofs.lemmas.{Bool.cond_both, List.append-nil, List.map-append, Simd.map-map}
 use Rattle.sj_base.proofs.Numbers.{length_more, none_more}
-use Rattle.sj_codelet.specs.Kernel.{out}
-use Rattle.sj_codelet.specs.declared.kernel.Kernel.{Kernel}
-use Rattle.sj_core.specs.Fold.{Contents, held_in, held_before, given}
-use Rattle.sj_core.specs.Operands.{worked_on}
-use Rattle.sj_core.specs.Program.{task_of, data_operands}
-use Rattle.sj_plan.specs.declared.parts.Parts.{Parts}
-use Rattle.sj_plan.specs.Parts.{IsPlace, places}
-use Rattle.sj_plan.specs.Rect.{child, place_of}
-use Rattle.sj_plan.specs.Window.{window}
 use Rattle.sj_plan.proofs.Lists.{each-places}
-use Rattle.sj_meaning.specs.Act.{Act, Statement, Register as Registers, Plan as Plans, Task as Tasks, Print as Prints}
-use Rattle.sj_meaning.specs.State.{RootState, is_valued}
-use Rattle.sj_meaning.specs.Meaning.{root_array}
-use Rattle.sj_meaning.specs.Table.{a_root}
-use Rattle.sj_meaning.specs.Numbers.{root_at, apply_at, prints_at, printed_at}
-use Rattle.sj_phases.specs.Block.{TaskBlock}
-use Rattle.sj_phases.specs.Expand.{moved}
-use Rattle.sj_phases.specs.Law.{handed_over}
-use Rattle.sj_phases.specs.Plain.{OpenReductions, Plainly, units, plain_rows, plain_next, open_at}
-use Rattle.sj_plan.specs.Paste.{pastes_of}
-use Rattle.sj_lower.specs.Cells.{same_parts}
-use Rattle.sj_lower.specs.Laid.{Laid, cell_of, take, with_handle}
-use Rattle.sj_lower.specs.Rows.{paste_row, deliver_row}
-use Rattle.sj_lower.specs.SoundAt.{IsSoundAt, AreSoundAt}
-use Rattle.sj_lower.specs.Step.{by_number, closing, contributed, operand_cell, active_cells, a_delivery, plan_block, print_block, step_of}
-use Rattle.sj_lower.proofs.Contents.{first_worker, task_at, contents_before, contents-next}
-use Rattle.sj_lower.proofs.Elements.{child-window, valued-child}
-use Rattle.sj_lower.proofs.Filling.{after_deliver}
-use Rattle.sj_lower.proofs.Folding.{Stand, after_row-is}
-use Rattle.sj_lower.proofs.Following.{IsAt, AllAgree, rows_from}
-use Rattle.sj_lower.proofs.Copying.{copies-prints}
-use Rattle.sj_lower.proofs.Taken.{take-prints}
-use Rattle.sj_lower.proofs.Keeping.{HasRoot, HaveRoots}
-use Rattle.sj_lower.proofs.Properly.{blocks_from}
-use Rattle.sj_lower.proofs.Stepping.{direct-delivers}
+use Rattle.sj_lower.proofs.{Contents.contents-next, Contents.contents_before, Contents.first_worker, Contents.task_at, Copying.copies-prints, Elements.child-window, Elements.valued-child, Filling.after_deliver, Folding.after_row-is, Folding.Stand, Following.AllAgree, Following.IsAt, Following.rows_from, Keeping.HasRoot, Keeping.HaveRoots, Properly.blocks_from, Stepping.direct-delivers, Taken.take-prints}
 
 -- what a delivery hands over, and where that belongs
 abbrev pub Handed : Type 0

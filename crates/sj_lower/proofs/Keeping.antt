@@ -1,37 +1,8 @@
 -- A program's cells hold what the children of the job's roots hold, by the roots' numbers.
-use Rattle.std.proofs.Common.{◌≡◌, ℕ, ◌<◌, ◌≤◌, Bool, true, false, ◌&&◌, Option, List, [], ◌∷◌, ◌++◌, ℤ, length, map as each_of, refl, sym, ap, subst, ◌∙◌, inl, inr, arith, get_or-set_same, get_or-set_other}
-use Rattle.std.specs.Prelude.{nat_eq}
-use Rattle.std.specs.List.{AllByRecursion, zip, list_all}
-use Rattle.std.specs.Option.{is_some}
-use Rattle.std.proofs.lemmas.Bool.{and_from, cases_Bool, cases_eq, cases_lt, false≢true, false_from_ne_true}
-use Rattle.std.proofs.lemmas.Bool.Decides.{Decides-eqb}
-use Rattle.std.proofs.lemmas.List.{get_or_past}
-use Rattle.sj_base.specs.declared.ids.Cell.{Cell}
-use Rattle.sj_base.specs.declared.tile.Dims.{Dims}
-use Rattle.sj_base.specs.declared.program.Program.{Program}
-use Rattle.sj_base.specs.Array.{Array, area}
+use Rattle.sj_lower.proofs.Words.{[], AllByRecursion, ap, area, AreLaid, arith, Array, Bool, Cell, cell_of, change_at, child, child_array, child_rect, Contents, Dims, dims_of, each_of, false, Fits, get_or-set_other, get_or-set_same, HasTakenPlan, HasValueBefore, held_in, inl, inr, integers_of, is_child, is_some, is_valued_child, IsPlace, IsWhole, Laid, length, List, list_all, Lives, nat_eq, no_root, Operand, Option, Parts, Program, put_all_at, rect_dims, refl, root_at, RootState, same_cell, same_child_place, subst, sym, true, with_child, zip, ℕ, ℤ, ◌&&◌, ◌++◌, ◌<◌, ◌∙◌, ◌∷◌, ◌≡◌, ◌≤◌}
+use Rattle.std.proofs.lemmas.{Bool.and_from, Bool.cases_Bool, Bool.cases_eq, Bool.cases_lt, Bool.Decides.Decides-eqb, Bool.false_from_ne_true, Bool.false≢true, List.get_or_past}
 use Rattle.sj_base.proofs.SameIds.{cell_of_number}
-use Rattle.sj_core.specs.Program.{same_cell, dims_of}
-use Rattle.sj_core.specs.Proper.{HasValueBefore}
-use Rattle.sj_core.specs.Fold.{Contents, held_in}
-use Rattle.sj_plan.specs.declared.parts.Parts.{Parts}
-use Rattle.sj_plan.specs.Parts.{Fits, IsPlace}
-use Rattle.sj_plan.specs.Paste.{same_child_place}
-use Rattle.sj_plan.specs.Rect.{child, rect_dims}
-use Rattle.sj_plan.specs.Window.{IsWhole}
-use Rattle.sj_meaning.specs.Statement.{Operand}
-use Rattle.sj_meaning.specs.State.{RootState, is_child, child_rect, is_valued_child}
-use Rattle.sj_meaning.specs.Meaning.{integers_of, child_array, with_child}
-use Rattle.sj_meaning.specs.Numbers.{no_root, root_at, change_at, put_all_at}
-use Rattle.sj_lower.specs.Laid.{Laid, cell_of}
-use Rattle.sj_lower.specs.SoundAt.{Lives}
-use Rattle.sj_lower.specs.Whole.{HasTakenPlan, AreLaid}
-use Rattle.sj_lower.proofs.Growing.{Grows}
-use Rattle.sj_lower.proofs.Contents.{NotAmong, held-same, held-other, held-moved, same_cell-is, task_at}
-use Rattle.sj_lower.proofs.Elements.{written-whole, written-other, written-array}
-use Rattle.sj_lower.proofs.Folding.{later}
-use Rattle.sj_lower.proofs.Taken.{cell-inside, cell-is, cell-row, cells-apart}
-use Rattle.sj_lower.proofs.Places.{place-is, place-itself}
+use Rattle.sj_lower.proofs.{Contents.held-moved, Contents.held-other, Contents.held-same, Contents.NotAmong, Contents.same_cell-is, Contents.task_at, Elements.written-array, Elements.written-other, Elements.written-whole, Folding.later, Growing.Grows, Places.place-is, Places.place-itself, Taken.cell-inside, Taken.cell-is, Taken.cell-row, Taken.cells-apart}
 
 -- ---- what agrees
 

@@ -1,41 +1,11 @@
 -- The codelets of what statements give are those of the set by which they are sound.
-use Rattle.std.proofs.Common.{◌≡◌, ℕ, Bool, true, false, cond, ◌&&◌, Option, Some, None, List, [], ◌∷◌, ◌++◌, length, map as each_of, fold, refl, sym, ap, subst, ◌∙◌, inl, inr}
-use Rattle.std.specs.Prelude.{All}
-use Rattle.std.specs.List.{range_with_len, flat_map, list_any}
-use Rattle.std.proofs.lemmas.Bool.{and_parts, cases_Bool, cond_both}
-use Rattle.std.proofs.lemmas.List.Elements.{All-nil, All-cons, All-head, All-tail, All-append, All-from_recursion}
-use Rattle.sj_base.specs.declared.ids.Cell.{Cell}
-use Rattle.sj_base.specs.declared.ids.Line.{Line}
-use Rattle.sj_base.specs.declared.mode.Reduction.{Reduction}
-use Rattle.sj_base.specs.declared.program.Lowered.{Lowered}
-use Rattle.sj_base.specs.Mode.{is_redux}
-use Rattle.sj_codelet.specs.declared.kernel.Kernel.{Kernel}
-use Rattle.sj_codelet.specs.declared.kernel.Kernel.TheVariants.{Load, LoadFill, Paste, Deliver}
-use Rattle.sj_codelet.specs.Kernel.{codelet_of, fits, init_of, combine_of, has_reduction, contributes_of}
+use Rattle.sj_lower.proofs.Words.{[], Act, active_cells, All, ap, apply_at, AreSoundAt, begin_rows, Bool, by_number, Cell, cell_of, cells_below, child_dims_at, closed, closing, codelet_of, combine_of, combine_row, combine_rows, cond, contributed, contributes_of, copy_at, Deliver, deliver_row, each_of, expand, expanded, Expansion, false, fits, flat_map, fold, has_reduction, init_of, init_row, init_rows, inl, inr, Invalidates, is_known, is_redux, is_valued, IsSoundAt, IsSoundTaskAt, Kernel, Laid, last_block, length, Line, List, list_any, Load, load_rows, LoadFill, Lowered, None, nothing, opened, opening_for, OpenPhase, Operand, operand_cell, Option, Parts, paste_row, pastes_of, phase_at, phase_turned, PhaseOpening, plan_block, Plans, prepared, Prints, range_with_len, Reduces, Reduction, refl, Registers, root_at, RootState, same_parts, Some, Statement, step_of, subst, sym, take, task_row, TaskBlock, TaskLine, Tasks, true, Unregisters, with_copies, with_handle, with_phase, ℕ, ◌&&◌, ◌++◌, ◌∙◌, ◌∷◌, ◌≡◌}
+use Rattle.sj_codelet.specs.declared.kernel.Kernel.TheVariants.{Paste}
+use Rattle.std.proofs.lemmas.{Bool.and_parts, Bool.cases_Bool, Bool.cond_both, List.Elements.All-append, List.Elements.All-cons, List.Elements.All-from_recursion, List.Elements.All-head, List.Elements.All-nil, List.Elements.All-tail}
 use Rattle.sj_codelet.proofs.Table.{kernel_of-codelet_of}
-use Rattle.sj_core.specs.Laws.{is_known}
-use Rattle.sj_plan.specs.declared.parts.Parts.{Parts}
-use Rattle.sj_plan.specs.Paste.{pastes_of}
 use Rattle.sj_plan.proofs.Lists.{each-map, each-of}
-use Rattle.sj_meaning.specs.Statement.{Operand, TaskLine}
-use Rattle.sj_meaning.specs.Act.{Act, Statement, Register as Registers, Plan as Plans, Redux as Reduces, Task as Tasks, Print as Prints, Invalidate as Invalidates, Unregister as Unregisters}
-use Rattle.sj_meaning.specs.State.{RootState, is_valued}
-use Rattle.sj_meaning.specs.Numbers.{root_at, apply_at}
-use Rattle.sj_phases.specs.declared.phase.PhaseOpening.{PhaseOpening}
-use Rattle.sj_phases.specs.declared.phase.OpenPhase.{OpenPhase}
-use Rattle.sj_phases.specs.Block.{TaskBlock}
-use Rattle.sj_phases.specs.Rows.{init_row, combine_row, init_rows, combine_rows, copy_at}
-use Rattle.sj_phases.specs.Expand.{Expansion, nothing, phase_turned, with_phase, closed, opened, begin_rows, phase_at, prepared, expanded, expand, cells_below, last_block}
-use Rattle.sj_phases.proofs.Logging.{phase-own, phase-other, by_which, some_is, none_isn't}
-use Rattle.sj_lower.specs.Cells.{same_parts}
-use Rattle.sj_lower.specs.Laid.{Laid, cell_of, take, with_handle, with_copies}
-use Rattle.sj_lower.specs.Rows.{load_rows, paste_row, deliver_row}
-use Rattle.sj_lower.specs.SoundAt.{IsSoundTaskAt, IsSoundAt, AreSoundAt, child_dims_at}
-use Rattle.sj_lower.specs.Step.{by_number, step_of, active_cells, closing, operand_cell, opening_for, contributed, plan_block, task_row}
-use Rattle.sj_lower.proofs.Doing.{kernel_there}
-use Rattle.sj_lower.proofs.Good.{each-load}
-use Rattle.sj_lower.proofs.Operands.{contributes-there, last-there, lawful-at, lawful-contribution, none-filter, one-opens, opening_by, reduction_of}
-use Rattle.sj_lower.proofs.Properly.{blocks_from}
+use Rattle.sj_phases.proofs.Logging.{by_which, none_isn't, phase-other, phase-own, some_is}
+use Rattle.sj_lower.proofs.{Doing.kernel_there, Good.each-load, Operands.contributes-there, Operands.last-there, Operands.lawful-at, Operands.lawful-contribution, Operands.none-filter, Operands.one-opens, Operands.opening_by, Operands.reduction_of, Properly.blocks_from}
 
 -- the set has the task's codelet
 abbrev pub IsKnown : (Kernel → Bool) → Lowered → Type 0

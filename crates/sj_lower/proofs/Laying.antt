@@ -1,42 +1,10 @@
 -- The code's layout is that of the definition, after a root takes a plan or a cell gets its partial copies.
-use Rattle.std.proofs.Common.{◌≡◌, ℕ, zero, suc, ◌+◌, ◌*◌, ◌<◌, ◌≤◌, cond, ◌&&◌, Option, Some, None, IfSome, IfNone, List, [], ◌∷◌, ◌++◌, length, map as each_of, get_or, refl, sym, ap, subst, ◌∙◌, inl, inr, arith, length-append, get_or-set_same, get_or-set_other}
-use Rattle.std.specs.Prelude.{nat_eq, replicate, set, unwrap_or}
-use Rattle.std.proofs.Math.Seq.{get_or-append_seam}
-use Rattle.std.proofs.lemmas.Bool.{cases_eq}
-use Rattle.std.proofs.lemmas.List.{get_or_append_left, get_or_default, length-set, set-append_left}
-use Rattle.std.proofs.lemmas.Simd.{map-map}
-use Rattle.indexmap.specs.IndexMap.{get}
-use Rattle.sj_base.specs.declared.ids.Cell.{Cell}
-use Rattle.sj_base.specs.declared.ids.Root.{Root as RootNumber}
-use Rattle.sj_base.specs.declared.program.CellInfo.{CellInfo}
-use Rattle.sj_base.specs.declared.tile.Dims.{Dims}
-use Rattle.sj_base.specs.Array.{area}
-use Rattle.sj_base.proofs.Options.{IfSome-at}
-use Rattle.sj_core.specs.Program.{no_cell}
-use Rattle.sj_plan.specs.declared.parts.Parts.{Parts}
-use Rattle.sj_plan.specs.Parts.{IsPlace, places}
-use Rattle.sj_plan.specs.Rect.{child, children_of}
+use Rattle.sj_lower.proofs.Words.{[], Active, active_at, active_cells, ap, area, AreActive, AreLaidFor, arith, by_number, Cell, cell_by, CellInfo, cells_by, cells_from, change_at, child, children_of, cond, copy_info, Dims, each_of, first_cell, first_copy_in, Follows, get, get_or, get_or-set_other, get_or-set_same, Handle, handle_at, handle_of, HasCells, IfNone, IfSome, info_at, inl, inr, IsActive, IsActiveChild, IsPlace, Laid, Layout, Lays, length, length-append, List, Lives, most, nat_eq, no_active, no_cell, None, operand_at, operand_cell, Option, Parts, Placed, places, rect_cell, refl, Register, registered_root, replicate, root_at, RootNumber, RootState, same_parts, same_taken, set, Some, subst, suc, sym, take, Taken, taken_plan, unwrap_or, with_copies, with_handle, with_new_plan, with_partials, with_parts, zero, ℕ, ◌&&◌, ◌*◌, ◌++◌, ◌+◌, ◌<◌, ◌∙◌, ◌∷◌, ◌≡◌, ◌≤◌}
 use Rattle.sj_meaning.specs.declared.job.Operand.{Operand}
-use Rattle.sj_meaning.specs.Statement.{Register}
-use Rattle.sj_meaning.specs.Meaning.{registered_root, with_parts}
-use Rattle.sj_meaning.specs.State.{RootState}
-use Rattle.sj_meaning.specs.Numbers.{root_at, change_at, operand_at}
-use Rattle.sj_phases.specs.Expand.{most}
-use Rattle.sj_lower.specs.declared.layout.Active.{Active}
-use Rattle.sj_lower.specs.declared.layout.Layout.{Layout}
-use Rattle.sj_lower.specs.declared.layout.Taken.{Taken}
-use Rattle.sj_lower.specs.declared.rows.Placed.{Placed}
-use Rattle.sj_lower.specs.Cells.{rect_cell, cells_from, same_parts, copy_info, with_partials}
-use Rattle.sj_lower.specs.Follows.{taken_plan, same_taken, Lays, IsActive, AreActive, Follows, no_active, active_at, HasCells, IsActiveChild, cell_by, cells_by}
-use Rattle.sj_lower.specs.Laid.{Laid, Handle, handle_of, handle_at, first_cell, with_new_plan, take, with_handle, info_at, first_copy_in, with_copies}
-use Rattle.sj_lower.specs.SoundAt.{Lives}
-use Rattle.sj_lower.specs.Step.{by_number, operand_cell, active_cells}
-use Rattle.sj_lower.specs.Whole.{AreLaidFor}
-use Rattle.sj_lower.proofs.Copying.{by_copies, copied-length, first-new, first-old}
-use Rattle.sj_lower.proofs.Keeping.{lives-below, changed-here, changed-beside}
-use Rattle.sj_lower.proofs.Places.{parts-itself}
-use Rattle.sj_lower.proofs.Starting.{pushed-there, pushed-beside}
-use Rattle.sj_lower.proofs.Taken.{none_isn't, some_is, by_first, took-there, longer, take-keeps, take-handles, root-there, took-first}
+use Rattle.std.proofs.Math.Seq.{get_or-append_seam}
+use Rattle.std.proofs.lemmas.{Bool.cases_eq, List.get_or_append_left, List.get_or_default, List.length-set, List.set-append_left, Simd.map-map}
+use Rattle.sj_base.proofs.Options.{IfSome-at}
+use Rattle.sj_lower.proofs.{Copying.by_copies, Copying.copied-length, Copying.first-new, Copying.first-old, Keeping.changed-beside, Keeping.changed-here, Keeping.lives-below, Places.parts-itself, Starting.pushed-beside, Starting.pushed-there, Taken.by_first, Taken.longer, Taken.none_isn't, Taken.root-there, Taken.some_is, Taken.take-handles, Taken.take-keeps, Taken.took-first, Taken.took-there}
 
 -- ---- what the code's calls say
 

@@ -43,3 +43,4 @@ pub mod Tasking
 pub mod Allowed
 pub mod Going
 pub mod Making
+pub mod Words

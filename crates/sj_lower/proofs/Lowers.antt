@@ -1,45 +1,11 @@
 -- What a kept job is lowered to, by its names, is proper and delivers what it prints.
-use Rattle.std.proofs.Common.{◌≡◌, ℕ, ◌<◌, ◌≤◌, ◌^◌, Bool, List, [], ◌∷◌, ◌++◌, All, length, map, fold, drop, refl, sym, ap, subst, ◌∙◌, arith}
+use Rattle.sj_lower.proofs.Words.{[], act_at, act_seen, All, ap, apply, apply_at, AreDistinct, AreSoundAt, AreSoundByName, arith, Bool, by_name, by_number, CellInfo, count_after, count_from, DeliversPrinted, drop, expand, fold, IsDelivered, IsLawful, IsNumbered, Kept, KeptAct, Kernel, Laid, last_block, last_line, length, Line, List, LoweringStep, map, MayComeInTurn, name_at, names_in, names_of, no_cells, none_open, nothing, out, plain_program, printed, printed_at, Program, program_by, program_of_blocks, Proper, refl, RootState, seen_from, start, Statement, statements_from, step_of, steps_at, steps_from, steps_of, subst, sym, Table, TaskBlock, values_from, ℕ, ◌++◌, ◌<◌, ◌^◌, ◌∙◌, ◌∷◌, ◌≡◌, ◌≤◌}
+use Rattle.sj_meaning.proofs.Mirroring.{printed_as as found_as}
 use Rattle.std.proofs.lemmas.List.{drop_all, drop_more}
-use Rattle.sj_base.specs.declared.ids.Line.{Line}
-use Rattle.sj_base.specs.declared.program.Program.{Program}
-use Rattle.sj_base.specs.declared.program.CellInfo.{CellInfo}
-use Rattle.sj_codelet.specs.Kernel.{out}
-use Rattle.sj_codelet.specs.declared.kernel.Kernel.{Kernel}
-use Rattle.sj_core.specs.Laws.{IsLawful}
-use Rattle.sj_core.specs.Proper.{Proper}
-use Rattle.sj_meaning.specs.declared.job.Act.{Act as KeptAct}
-use Rattle.sj_meaning.specs.declared.job.Act.TheVariants as kept
-use Rattle.sj_meaning.specs.declared.job.Statement.{Statement as Kept}
-use Rattle.sj_meaning.specs.Act.{Statement}
-use Rattle.sj_meaning.specs.State.{RootState, start}
-use Rattle.sj_meaning.specs.Meaning.{apply, printed}
-use Rattle.sj_meaning.specs.Numbers.{name_at, statements_from, act_at, apply_at, printed_at}
-use Rattle.sj_meaning.specs.Sound.{AreSoundActs as AreSoundByName}
-use Rattle.sj_meaning.specs.Table.{Table, AreDistinct}
-use Rattle.sj_meaning.specs.View.{act_seen, seen_from, count_after, count_from, values_from, IsNumbered}
-use Rattle.sj_meaning.proofs.Mirroring.{AreTimely, printed-by, printed_as as found_as}
-use Rattle.sj_meaning.proofs.Timely.{statements-named, timely}
-use Rattle.sj_meaning.proofs.Views.{counts-grow}
-use Rattle.sj_phases.specs.Block.{TaskBlock}
-use Rattle.sj_phases.specs.Expand.{nothing, expand, last_block}
-use Rattle.sj_phases.specs.Law.{program_of_blocks}
-use Rattle.sj_phases.specs.Orderly.{IsDelivered}
-use Rattle.sj_phases.specs.Plain.{none_open, plain_program}
-use Rattle.sj_lower.specs.Delivering.{DeliversPrinted}
-use Rattle.sj_lower.specs.Laid.{Laid, no_cells}
-use Rattle.sj_lower.specs.SoundAt.{AreSoundAt}
-use Rattle.sj_lower.specs.Step.{by_name, by_number, names_in, names_of, LoweringStep, step_of, steps_from, steps_of, last_line, program_by}
-use Rattle.sj_lower.proofs.Following.{laid_from}
-use Rattle.sj_lower.proofs.Naming.{mirror-start, AreSilent, sounds-at, AreTold, IsTold, knows-none, all-known}
-use Rattle.sj_lower.proofs.Printing.{delivers-printed}
-use Rattle.sj_lower.proofs.Proving.{blocks, orderly, are-delivered, is-proper, hands-over, all}
-use Rattle.sj_lower.proofs.Speaking.{steps-same}
-use Rattle.sj_lower.proofs.Known.{IsKnown, HasOwn, known-all}
-use Rattle.sj_lower.proofs.Running.{are-ready}
-use Rattle.sj_lower.proofs.Values.{values-same}
+use Rattle.sj_meaning.proofs.{Mirroring.AreTimely, Mirroring.printed-by, Timely.statements-named, Timely.timely, Views.counts-grow}
+use Rattle.sj_lower.proofs.{Following.laid_from, Known.HasOwn, Known.IsKnown, Known.known-all, Naming.all-known, Naming.AreSilent, Naming.AreTold, Naming.IsTold, Naming.knows-none, Naming.mirror-start, Naming.sounds-at, Printing.delivers-printed, Proving.all, Proving.are-delivered, Proving.blocks, Proving.hands-over, Proving.is-proper, Proving.orderly, Running.are-ready, Speaking.steps-same, Values.values-same}
 use Rattle.sj_phases.proofs.Fewer.{few-plain}
-use Rattle.sj_lower.specs.Running.{MayComeInTurn, steps_at}
+use Rattle.sj_meaning.specs.declared.job.Act.TheVariants as kept
 
 -- ---- the names of a numbered job are those of its table
 

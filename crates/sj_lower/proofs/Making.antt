@@ -1,35 +1,7 @@
 -- What lowering gives of a job that lines may say.
-use Rattle.std.proofs.Common.{◌≡◌, ℕ, ◌<◌, ◌≤◌, ◌^◌, Bool, true, ◌&&◌, List, [], length, sym, ap, subst, ◌∙◌, arith}
-use Rattle.std.specs.Prelude.{All}
-use Rattle.sj_base.specs.declared.program.Program.{Program}
-use Rattle.sj_codelet.specs.declared.kernel.Kernel.{Kernel}
-use Rattle.sj_codelet.specs.declared.kernel.Kernel.TheVariants.{Load, LoadFill, Paste, Deliver}
-use Rattle.sj_codelet.specs.Kernel.{out}
-use Rattle.sj_core.specs.Laws.{IsLawful}
-use Rattle.sj_core.specs.Proper.{Proper}
-use Rattle.sj_meaning.specs.declared.job.Statement.{Statement as Kept}
-use Rattle.sj_meaning.specs.Act.{Statement}
-use Rattle.sj_meaning.specs.State.{start}
-use Rattle.sj_meaning.specs.Numbers.{statements_from}
-use Rattle.sj_meaning.specs.Sound.{AreSoundActs}
-use Rattle.sj_meaning.specs.Table.{Table, IsTable}
-use Rattle.sj_meaning.specs.View.{seen_from, IsNumbered}
-use Rattle.sj_job.specs.Well.{IsWell}
-use Rattle.sj_phases.specs.Expand.{nothing}
-use Rattle.sj_phases.specs.Orderly.{IsDelivered}
-use Rattle.sj_lower.specs.declared.lower.LowerRefusal.{LowerRefusal}
-use Rattle.sj_lower.specs.Delivering.{DeliversPrinted, NamesDeliverTasks, DeliversInOrder}
-use Rattle.sj_lower.specs.Laid.{no_cells}
-use Rattle.sj_lower.specs.Limits.{late_limit}
-use Rattle.sj_lower.specs.Lowering.{lowered}
-use Rattle.sj_lower.specs.Progress.{IsLate}
-use Rattle.sj_lower.specs.Running.{MayComeInTurn}
-use Rattle.sj_lower.specs.Step.{LoweringStep, steps_of, program_by}
-use Rattle.sj_lower.proofs.Allowed.{all-sound, all-silent}
-use Rattle.sj_lower.proofs.Going.{late_by, steps_from_start, IsMade}
-use Rattle.sj_lower.proofs.Known.{IsKnown, own-of}
-use Rattle.sj_lower.proofs.Lowers.{proper-few, delivered, delivers, known, ready, steps-are}
-use Rattle.sj_lower.proofs.Naming.{AreSilent}
+use Rattle.sj_lower.proofs.Words.{[], All, ap, AreSoundActs, arith, Bool, Deliver, DeliversInOrder, DeliversPrinted, IsDelivered, IsLate, IsLawful, IsNumbered, IsTable, IsWell, Kept, Kernel, late_limit, length, List, Load, LoadFill, lowered, LoweringStep, LowerRefusal, MayComeInTurn, NamesDeliverTasks, no_cells, nothing, out, Program, program_by, Proper, seen_from, start, Statement, statements_from, steps_of, subst, sym, Table, true, ℕ, ◌&&◌, ◌<◌, ◌^◌, ◌∙◌, ◌≡◌, ◌≤◌}
+use Rattle.sj_codelet.specs.declared.kernel.Kernel.TheVariants.{Paste}
+use Rattle.sj_lower.proofs.{Allowed.all-silent, Allowed.all-sound, Going.IsMade, Going.late_by, Going.steps_from_start, Known.IsKnown, Known.own-of, Lowers.delivered, Lowers.delivers, Lowers.known, Lowers.proper-few, Lowers.ready, Lowers.steps-are, Naming.AreSilent}
 
 module _ (T : Table) (kss : List Kept) (table : IsTable T) (numbered : IsNumbered T kss) (has : Kernel → Bool) (well : IsWell has 0 start (seen_from T 0 kss)) (workers : ℕ) where
   abbrev ss : List (Statement (List ℕ))

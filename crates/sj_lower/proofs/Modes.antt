@@ -1,36 +1,13 @@
 -- The modes of a task's operands, by its roots' numbers, are modes that a program may have: with contributions, and without
 -- phases.
-use mathlib.Core.List.{map-map}
-use Rattle.std.proofs.Common.{◌≡◌, ℕ, Bool, true, false, cond, not, ◌&&◌, ◌||◌, Option, Some, None, List, [], ◌∷◌, ◌++◌, length, map as each_of, refl, sym, ap, subst, ◌∙◌, inl, inr, arith}
-use Rattle.std.specs.Prelude.{Contains, count_by}
-use Rattle.std.specs.List.{list_all, list_any}
-use Rattle.std.proofs.lemmas.Bool.{cases_Bool, false≢true, and_parts, or_right}
-use Rattle.std.proofs.lemmas.List.Sums.{length-filter}
-use Rattle.sj_base.specs.declared.mode.Mode.{Mode}
-use Rattle.sj_base.specs.declared.mode.Mode.TheVariants.{R, W, RW, Scratch, Redux, Commute}
-use Rattle.sj_base.specs.Mode.{is_redux, is_commute, is_written}
-use Rattle.sj_base.proofs.Bools.{implied}
-use Rattle.sj_base.proofs.Lists.{map-agree}
-use Rattle.sj_codelet.specs.declared.kernel.Kernel.{Kernel}
-use Rattle.sj_codelet.specs.declared.formal.Formal.{Formal}
-use Rattle.sj_codelet.specs.declared.formal.Formal.TheVariants.{R as FormalR, W as FormalW, RW as FormalRW, Scratch as FormalScratch}
-use Rattle.sj_codelet.specs.Formal.{is_output}
-use Rattle.sj_codelet.specs.Kernel.{formals_of, commutes_of, commutes_in}
-use Rattle.sj_core.specs.Proper.{MayHaveModes, mode_of, modes_writing_by, writes_one}
-use Rattle.sj_core.proofs.Modes.{commutes_is_written}
-use Rattle.sj_core.proofs.Readiness.{Contains-filter, list_any-some}
-use Rattle.sj_core.proofs.Updating.{updates-last, contributing-commutes}
+use Rattle.sj_lower.proofs.Words.{[], ap, arith, Bool, Commute, commutes_in, commutes_of, cond, Contains, count_by, direct_mode, each_of, false, Formal, FormalR, FormalRW, formals_of, FormalScratch, FormalW, inl, inr, is_commute, is_output, is_redux, is_unordered, is_written, IsSoundTaskAt, Kernel, length, List, list_all, list_any, MayHaveModes, Mode, mode_fits, mode_of, modes_fit_at, modes_writing_by, None, not, Operand, Option, R, Redux, refl, RootState, RW, Scratch, Some, subst, sym, TaskLine, true, W, writes_one, written_of, ℕ, ◌&&◌, ◌++◌, ◌||◌, ◌∙◌, ◌∷◌, ◌≡◌}
+use Rattle.std.proofs.lemmas.{Bool.and_parts, Bool.cases_Bool, Bool.false≢true, Bool.or_right, List.Sums.length-filter}
+use Rattle.sj_base.proofs.{Bools.implied, Lists.map-agree}
+use Rattle.sj_core.proofs.{Modes.commutes_is_written, Readiness.Contains-filter, Readiness.list_any-some, Updating.contributing-commutes, Updating.updates-last}
 use Rattle.sj_plan.proofs.Lists.{any-implied, count_by-map}
-use Rattle.sj_meaning.specs.Statement.{Operand, TaskLine}
-use Rattle.sj_meaning.specs.State.{RootState}
-use Rattle.sj_meaning.specs.Meaning.{written_of}
-use Rattle.sj_meaning.specs.Sound.{is_unordered, mode_fits}
-use Rattle.sj_phases.specs.Plain.{direct_mode}
-use Rattle.sj_phases.proofs.Lists.{one-case, first-has, more-has}
-use Rattle.sj_lower.specs.SoundAt.{IsSoundTaskAt, modes_fit_at}
-use Rattle.sj_lower.proofs.Operands.{Contributes, lawful-at, none-passes}
-use Rattle.sj_lower.proofs.Doing.{kernel_there}
-use Rattle.sj_lower.proofs.Writing.{writes_output}
+use Rattle.sj_phases.proofs.Lists.{first-has, more-has, one-case}
+use Rattle.sj_lower.proofs.{Doing.kernel_there, Operands.Contributes, Operands.lawful-at, Operands.none-passes, Writing.writes_output}
+use mathlib.Core.List.{map-map}
 
 -- ---- modes of task lines
 

@@ -1,35 +1,9 @@
 -- From a job that is kept to its statements by number: they are sound, and the table knows what they print.
+use Rattle.sj_lower.proofs.Words.{[], a_root, Act, act_named_by, ap, apply, apply_at, area, AreDistinct, AreSoundAt, AreSoundByName, arith, Array, Bool, by_number, change_at, Dims, each_of, info_of, inl, inr, Invalidates, IsSoundAt, JobState, Kernel, Laid, length, List, Lives, name_at, nat_cmp, no_root, no_values, open_at, OpenReductions, Operand, operand_array_at, Option, out, plain_rows, Plans, printed_at, Prints, prints_at, Program, put_all_at, Reduces, refl, registered_root, Registers, root_at, RootState, slice_cmp, slice_get, Some, start, Statement, statement_named_by, step_of, subst, suc, sym, Table, Tasks, Unregisters, unwrap_or, with_child, with_elements, with_parts, with_reduction, written_of, zero, ℕ, ◌++◌, ◌+◌, ◌<◌, ◌∙◌, ◌∷◌, ◌≡◌}
+use Rattle.std.proofs.lemmas.{Bool.cases_eq, Option.none-some, Option.slice_get_within}
+use Rattle.sj_meaning.proofs.Mirroring.{AreTimely, IsMirror, mirror-apply}
+use Rattle.sj_lower.proofs.{Arms.by_changed, Contents.contents_before, Following.AllAgree, Keeping.HaveRoots, Printing.IsKnown, Sounding.IsSilent, Sounding.sound-at, Starting.pushed-beside, Starting.pushed-there}
 use Rattle.std.specs.FinMap as map
-use Rattle.std.proofs.Common.{◌≡◌, ℕ, zero, suc, ◌+◌, ◌<◌, Bool, Option, Some, List, [], ◌∷◌, ◌++◌, length, map as each_of, refl, sym, ap, subst, ◌∙◌, inl, inr, arith}
-use Rattle.std.specs.Prelude.{slice_get, unwrap_or}
-use Rattle.std.specs.Ordering.{nat_cmp}
-use Rattle.std.specs.Cmp.Lexicographic.{slice_cmp}
-use Rattle.std.proofs.lemmas.Bool.{cases_eq}
-use Rattle.std.proofs.lemmas.Option.{none-some, slice_get_within}
-use Rattle.sj_base.specs.declared.tile.Dims.{Dims}
-use Rattle.sj_base.specs.Array.{Array, area}
-use Rattle.sj_codelet.specs.declared.kernel.Kernel.{Kernel}
-use Rattle.sj_codelet.specs.Kernel.{out}
-use Rattle.sj_meaning.specs.Statement.{Operand}
-use Rattle.sj_meaning.specs.Act.{Act, Statement, Register as Registers, Plan as Plans, Redux as Reduces, Task as Tasks, Print as Prints, Invalidate as Invalidates, Unregister as Unregisters}
-use Rattle.sj_meaning.specs.State.{RootState, JobState, start}
-use Rattle.sj_meaning.specs.Meaning.{apply, with_parts, with_reduction, with_elements, with_child, no_values, registered_root, written_of}
-use Rattle.sj_meaning.specs.Numbers.{name_at, act_named_by, statement_named_by, no_root, root_at, change_at, put_all_at, operand_array_at, apply_at, prints_at, printed_at}
-use Rattle.sj_meaning.specs.Sound.{AreSoundActs as AreSoundByName}
-use Rattle.sj_meaning.specs.Table.{Table, AreDistinct, a_root, info_of}
-use Rattle.sj_meaning.proofs.Mirroring.{IsMirror, AreTimely, mirror-apply}
-use Rattle.sj_phases.specs.Plain.{OpenReductions, plain_rows, open_at}
-use Rattle.sj_lower.specs.Laid.{Laid}
-use Rattle.sj_lower.specs.SoundAt.{Lives, IsSoundAt, AreSoundAt}
-use Rattle.sj_lower.specs.Step.{by_number, step_of}
-use Rattle.sj_lower.proofs.Arms.{by_changed}
-use Rattle.sj_lower.proofs.Following.{AllAgree}
-use Rattle.sj_lower.proofs.Contents.{contents_before}
-use Rattle.sj_base.specs.declared.program.Program.{Program}
-use Rattle.sj_lower.proofs.Keeping.{HaveRoots}
-use Rattle.sj_lower.proofs.Printing.{IsKnown}
-use Rattle.sj_lower.proofs.Sounding.{sound-at, IsSilent}
-use Rattle.sj_lower.proofs.Starting.{pushed-there, pushed-beside}
 
 -- before the first statement
 pub mirror-start : (names : List (List ℕ)) → IsMirror names start []

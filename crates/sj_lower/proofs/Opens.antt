@@ -1,54 +1,10 @@
 -- Which phases a statement leaves open: those of children with values, whose roots have the reduction.
-use Rattle.std.proofs.Common.{◌≡◌, ℕ, ◌<◌, Bool, true, false, cond, ◌&&◌, Option, Some, List, [], ◌∷◌, ◌++◌, ℤ, length, map as each_of, fold, refl, sym, ap, subst, ◌∙◌, inl, inr, arith, length-append, get_or-set_other}
-use Rattle.std.specs.Prelude.{Contains, slice_set}
-use Rattle.std.specs.List.{AllByRecursion, list_all, list_any, flat_map}
-use Rattle.std.specs.Option.{is_some}
-use Rattle.std.proofs.lemmas.Bool.{cases_Bool, cases_eq, cond_both, false≢true}
-use Rattle.std.proofs.lemmas.List.{length-map, get_or-map}
-use Rattle.std.proofs.lemmas.List.Elements.{All-filter, All-from_recursion, recursion_from_All}
-use Rattle.sj_base.specs.declared.ids.Cell.{Cell}
-use Rattle.sj_base.specs.declared.ids.Line.{Line}
-use Rattle.sj_base.specs.declared.tile.Dims.{Dims}
-use Rattle.sj_base.specs.declared.mode.Reduction.{Reduction}
-use Rattle.sj_base.specs.declared.program.Program.{Program}
-use Rattle.sj_base.specs.Array.{Array, area}
-use Rattle.sj_base.specs.Mode.{is_redux, is_written}
-use Rattle.sj_base.proofs.Lists.{each-weaker}
-use Rattle.sj_base.proofs.SameIds.{cell_of_number}
-use Rattle.sj_codelet.specs.declared.kernel.Kernel.{Kernel}
-use Rattle.sj_codelet.specs.Kernel.{out}
-use Rattle.sj_core.specs.Program.{same_cell}
+use Rattle.sj_lower.proofs.Words.{[], Act, active_cells, AllByRecursion, ap, apply_at, area, arith, Array, Bool, by_number, Cell, cell_of, change_at, child_dims_at, closing, cond, Contains, contributed, Dims, each_of, false, flat_map, fold, get_or-set_other, handle_of, HasTakenPlan, inl, inr, Invalidates, is_child, is_redux, is_some, is_valued, is_valued_child, is_written, IsPlace, IsPlacedAt, IsSoundAt, IsSoundTaskAt, Kernel, Laid, length, length-append, Line, List, list_all, list_any, Lives, no_root, no_values, number, open_at, opening_for, OpenReductions, Operand, operand_array_at, operand_cell, Option, out, Parts, paste_row, pastes_of, places, plan_block, Plans, Prints, Program, put_all_at, Reduces, Reduction, refl, registered_root, Registers, root_at, RootState, run_task_at, same_cell, same_child_place, same_parts, shut_by, slice_set, Some, step_of, subst, sym, take, task_block, TaskBlock, TaskLine, Tasks, true, Unregisters, with_child, with_copies, with_elements, with_handle, with_opening, with_parts, with_print, with_reduction, with_shut, written_of, ℕ, ℤ, ◌&&◌, ◌++◌, ◌<◌, ◌∙◌, ◌∷◌, ◌≡◌}
+use Rattle.std.proofs.lemmas.{Bool.cases_Bool, Bool.cases_eq, Bool.cond_both, Bool.false≢true, List.Elements.All-filter, List.Elements.All-from_recursion, List.Elements.recursion_from_All, List.get_or-map, List.length-map}
+use Rattle.sj_base.proofs.{Lists.each-weaker, SameIds.cell_of_number}
 use Rattle.sj_core.proofs.Readiness.{Contains-map}
-use Rattle.sj_plan.specs.declared.parts.Parts.{Parts}
-use Rattle.sj_plan.specs.Parts.{IsPlace, places, number}
-use Rattle.sj_plan.specs.Paste.{same_child_place, pastes_of}
-use Rattle.sj_meaning.specs.Act.{Act, Register as Registers, Plan as Plans, Redux as Reduces, Task as Tasks, Print as Prints, Invalidate as Invalidates, Unregister as Unregisters}
-use Rattle.sj_meaning.specs.Statement.{Operand, TaskLine}
-use Rattle.sj_meaning.specs.State.{RootState, is_child, is_valued, is_valued_child}
-use Rattle.sj_meaning.specs.Meaning.{with_child, with_parts, with_reduction, with_elements, no_values, registered_root, written_of}
-use Rattle.sj_meaning.specs.Numbers.{no_root, root_at, change_at, put_all_at, operand_array_at, run_task_at, apply_at}
-use Rattle.sj_phases.specs.Block.{TaskBlock}
-use Rattle.sj_lower.specs.Rows.{paste_row}
-use Rattle.sj_phases.specs.Plain.{OpenReductions, with_shut, with_opening, shut_by, open_at}
-use Rattle.sj_phases.proofs.Expanded.{shuts}
-use Rattle.sj_phases.proofs.Logging.{by_which, phase-own, phase-other}
-use Rattle.sj_lower.specs.Cells.{same_parts}
-use Rattle.sj_lower.specs.Laid.{Laid, handle_of, cell_of, take, with_handle, with_print, with_copies}
-use Rattle.sj_lower.specs.SoundAt.{Lives, IsPlacedAt, IsSoundTaskAt, IsSoundAt, child_dims_at}
-use Rattle.sj_lower.specs.Step.{by_number, closing, contributed, opening_for, operand_cell, task_block, plan_block, active_cells, step_of}
-use Rattle.sj_lower.specs.Whole.{HasTakenPlan}
-use Rattle.sj_lower.proofs.Agrees.{IsOpenChild, AreOpenChildren, Agrees}
-use Rattle.sj_lower.proofs.Contributing.{fold-handles, same-cells}
-use Rattle.sj_lower.proofs.Doing.{kernel_there, new_dims, the_cell}
-use Rattle.sj_lower.proofs.Elements.{written-other, written-valued}
-use Rattle.sj_lower.proofs.Following.{IsAt, OpensStep}
-use Rattle.sj_lower.proofs.Keeping.{lives-below, changed-here, changed-beside}
-use Rattle.sj_lower.proofs.Operands.{Contributes, contributes-there, last-there, none-filter, one-opens, opening_by, placed-at}
-use Rattle.sj_lower.proofs.Orderly.{shut-less}
-use Rattle.sj_lower.proofs.Places.{number-below, length-places, places-at, parts-are, place-is, place-itself}
-use Rattle.sj_lower.proofs.Starting.{pushed-beside}
-use Rattle.sj_lower.proofs.Taken.{cell-is, root-there, keeps-root, take-keeps, take-takes, some_is, none_isn't}
-use Rattle.sj_lower.proofs.Writing.{all_dims}
+use Rattle.sj_phases.proofs.{Expanded.shuts, Logging.by_which, Logging.phase-other, Logging.phase-own}
+use Rattle.sj_lower.proofs.{Agrees.Agrees, Agrees.AreOpenChildren, Agrees.IsOpenChild, Contributing.fold-handles, Contributing.same-cells, Doing.kernel_there, Doing.new_dims, Doing.the_cell, Elements.written-other, Elements.written-valued, Following.IsAt, Following.OpensStep, Keeping.changed-beside, Keeping.changed-here, Keeping.lives-below, Operands.Contributes, Operands.contributes-there, Operands.last-there, Operands.none-filter, Operands.one-opens, Operands.opening_by, Operands.placed-at, Orderly.shut-less, Places.length-places, Places.number-below, Places.parts-are, Places.place-is, Places.place-itself, Places.places-at, Starting.pushed-beside, Taken.cell-is, Taken.keeps-root, Taken.none_isn't, Taken.root-there, Taken.some_is, Taken.take-keeps, Taken.take-takes, Writing.all_dims}
 
 -- ---- places and cells
 

@@ -1,50 +1,11 @@
 -- The operands of a task that contributes, by its roots' numbers: the last one gets the contribution, and those before it are
 -- only read, scratch aside.
-use Rattle.std.proofs.Common.{◌≡◌, ℕ, ◌+◌, Bool, true, false, cond, not, ◌&&◌, ◌||◌, Option, Some, None, List, [], ◌∷◌, ◌++◌, length, refl, sym, ap, subst, ◌∙◌, inl, inr, arith, length-append}
-use Rattle.std.specs.Prelude.{AllPairs, Contains, nat_eq}
-use Rattle.std.specs.List.{filter, flat_map, list_all, list_any, AllByRecursion}
-use Rattle.std.proofs.lemmas.Bool.{false≢true, false_from_ne_true, not-false, and_parts, or_parts}
-use Rattle.std.proofs.lemmas.Bool.Decides.{Decides-eqb}
-use Rattle.std.proofs.lemmas.List.{append-nil}
-use Rattle.std.proofs.lemmas.List.Elements.{All-contains, All-from_recursion, Contains-push_cases}
-use Rattle.std.proofs.lemmas.List.Folds.{list_any_at}
-use Rattle.std.proofs.lemmas.List.Kept.{AllPairs-cons}
-use Rattle.std.proofs.lemmas.List.Sums.{AllPass-from_list_all}
-use Rattle.sj_base.specs.declared.mode.Mode.{Mode}
-use Rattle.sj_base.specs.declared.mode.Mode.TheVariants.{R, Scratch, Redux}
-use Rattle.sj_base.specs.declared.mode.Reduction.{Reduction}
-use Rattle.sj_base.specs.declared.ids.Line.{Line}
-use Rattle.sj_base.specs.declared.program.Codelet.{Codelet}
-use Rattle.sj_base.specs.declared.program.Program.{Program}
-use Rattle.sj_base.specs.Mode.{is_redux, is_read_only, is_written, is_commute}
-use Rattle.sj_base.proofs.Bools.{and_middle, and_rest, implied}
-use Rattle.sj_base.proofs.Modes.{redux-is}
-use Rattle.sj_codelet.specs.declared.formal.Formal.{Formal}
-use Rattle.sj_codelet.specs.declared.formal.Formal.TheVariants.{R as FormalR, RW as FormalRW, Scratch as FormalScratch}
-use Rattle.sj_codelet.specs.declared.kernel.Kernel.{Kernel}
-use Rattle.sj_codelet.specs.Formal.{is_output}
-use Rattle.sj_codelet.specs.Kernel.{contributes_of, commutes_in, contributes_in, has_reduction}
-use Rattle.sj_core.specs.Fold.{Contents}
-use Rattle.sj_core.proofs.Readiness.{Contains-filter, list_any-some}
-use Rattle.sj_core.proofs.Updating.{updates-last, contributing-commutes}
-use Rattle.sj_plan.specs.Paste.{same_child_place}
-use Rattle.sj_meaning.specs.Statement.{Operand, TaskLine}
-use Rattle.sj_meaning.specs.State.{RootState, is_valued_child}
-use Rattle.sj_meaning.specs.Meaning.{written_of}
-use Rattle.sj_meaning.specs.Numbers.{root_at}
-use Rattle.sj_meaning.specs.Sound.{mode_fits, is_lawful_for, needs_value}
-use Rattle.sj_phases.specs.declared.phase.PhaseOpening.{PhaseOpening}
-use Rattle.sj_phases.specs.Expand.{first_units}
-use Rattle.sj_phases.specs.Plain.{units}
+use Rattle.sj_lower.proofs.Words.{[], AllByRecursion, AllPairs, ap, AreLaid, arith, Bool, by_number, clashes_at, Codelet, commutes_in, cond, Contains, Contents, contributed, contributes_in, contributes_of, false, filter, first_copy_in, first_units, flat_map, Formal, FormalR, FormalRW, FormalScratch, has_reduction, has_value, inl, inr, is_aliased_at, is_commute, is_lawful_for, is_output, is_read_only, is_redux, is_valued_child, is_written, IsPlacedAt, IsSoundTaskAt, Kernel, Laid, length, length-append, Line, List, list_all, list_any, Mode, mode_fits, modes_fit_at, nat_eq, needs_value, None, not, opening_for, Operand, Option, PhaseOpening, Program, R, Reduction, Redux, refl, root_at, RootState, same_child_place, Scratch, Some, subst, sym, task_block, TaskLine, true, units, written_of, ℕ, ◌&&◌, ◌++◌, ◌+◌, ◌||◌, ◌∙◌, ◌∷◌, ◌≡◌}
+use Rattle.std.proofs.lemmas.{Bool.and_parts, Bool.Decides.Decides-eqb, Bool.false_from_ne_true, Bool.false≢true, Bool.not-false, Bool.or_parts, List.append-nil, List.Elements.All-contains, List.Elements.All-from_recursion, List.Elements.Contains-push_cases, List.Folds.list_any_at, List.Kept.AllPairs-cons, List.Sums.AllPass-from_list_all}
+use Rattle.sj_base.proofs.{Bools.and_middle, Bools.and_rest, Bools.implied, Modes.redux-is}
+use Rattle.sj_core.proofs.{Readiness.Contains-filter, Readiness.list_any-some, Updating.contributing-commutes, Updating.updates-last}
 use Rattle.sj_phases.proofs.Lists.{all-from, filter-last, last-has, one-case}
-use Rattle.sj_lower.specs.Laid.{Laid, first_copy_in}
-use Rattle.sj_lower.specs.SoundAt.{IsPlacedAt, IsSoundTaskAt, clashes_at, has_value, is_aliased_at, modes_fit_at}
-use Rattle.sj_lower.specs.Step.{by_number, contributed, opening_for, task_block}
-use Rattle.sj_lower.specs.Whole.{AreLaid}
-use Rattle.sj_lower.proofs.Doing.{kernel_there, the_cell}
-use Rattle.sj_lower.proofs.Keeping.{HaveRoots}
-use Rattle.sj_lower.proofs.Places.{place-itself}
-use Rattle.sj_lower.proofs.Taken.{cells-apart}
+use Rattle.sj_lower.proofs.{Doing.kernel_there, Doing.the_cell, Keeping.HaveRoots, Places.place-itself, Taken.cells-apart}
 
 abbrev pub reduction_of : List RootState → ℕ → Option Reduction
 reduction_of rs n = (root_at rs n).reduction

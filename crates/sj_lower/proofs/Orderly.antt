@@ -1,69 +1,13 @@
 -- The block of a statement has what expanding it needs, by the roots' numbers.
-use mathlib.Core.List.{map-map}
-use Rattle.std.proofs.Common.{◌≡◌, ℕ, ◌+◌, ◌<◌, Bool, true, false, cond, not, Option, Some, None, List, [], ◌∷◌, length, get_or, map as each_of, fold, refl, sym, ap, subst, ◌∙◌, inl, inr, arith, unwrap_or}
-use Rattle.std.specs.Prelude.{All, Contains, filter, nat_eq, nat_le, nat_lt, count_by}
-use Rattle.std.specs.List.{AllByRecursion, flat_map, list_any, range_with_len, zip}
-use Rattle.std.specs.Option.{is_some}
-use Rattle.std.proofs.lemmas.Bool.{and_from, cond_both, false_from_ne_true, false≢true, le-leb, lt-ltb, not-true}
-use Rattle.std.proofs.lemmas.List.{length-map, get_or-map, map-id}
-use Rattle.std.proofs.lemmas.List.FromFn.{length-range_with_len, get_or-range_with_len}
-use Rattle.std.proofs.lemmas.List.Elements.{All-contains, All-filter, All-from_recursion, All-map, All-weaker, Contains-get_or}
-use Rattle.sj_base.specs.declared.ids.Cell.{Cell}
-use Rattle.sj_base.specs.declared.ids.Line.{Line}
-use Rattle.sj_base.specs.declared.ids.Worker.{Worker}
-use Rattle.sj_base.specs.declared.tile.Dims.{Dims}
-use Rattle.sj_base.specs.declared.mode.Mode.{Mode}
-use Rattle.sj_base.specs.declared.mode.Mode.TheVariants.{R, W, RW, Redux}
-use Rattle.sj_base.specs.declared.mode.Access.{Access}
-use Rattle.sj_base.specs.declared.mode.Reduction.{Reduction}
-use Rattle.sj_base.specs.declared.program.Delivery.{Delivery}
-use Rattle.sj_base.specs.declared.program.Lowered.{Lowered}
-use Rattle.sj_base.specs.declared.program.Program.{Program}
-use Rattle.sj_base.specs.Mode.{is_data, is_read_only, is_redux, is_scratch}
-use Rattle.sj_base.proofs.Bools.{tally}
-use Rattle.sj_base.proofs.Lists.{each-weaker}
-use Rattle.sj_base.proofs.Numbers.{none_first}
-use Rattle.sj_codelet.specs.declared.kernel.Kernel.{Kernel}
-use Rattle.sj_codelet.specs.declared.kernel.Kernel.TheVariants.{Deliver}
-use Rattle.sj_codelet.specs.Kernel.{kernel_of}
-use Rattle.sj_core.specs.Program.{cell_info, data_operands, no_task, same_cell}
-use Rattle.sj_core.specs.Fold.{Contents}
-use Rattle.sj_core.specs.Proper.{IsCopyOf, IsPlain, access}
-use Rattle.sj_core.proofs.Dependencies.{map-from}
-use Rattle.sj_core.proofs.Sums.{count-numbered}
-use Rattle.sj_core.proofs.Readiness.{AllPairs-two, Contains-filter, Contains-from_filter, Contains-map, filter-Contains}
-use Rattle.sj_plan.specs.declared.parts.Parts.{Parts}
-use Rattle.sj_plan.specs.declared.paste.Paste.{Paste}
-use Rattle.sj_plan.specs.Parts.{IsPlace, places}
-use Rattle.sj_plan.specs.Paste.{pastes_of, pastes_to, IsPasteBetween, is_first}
+use Rattle.sj_lower.proofs.Words.{[], a_delivery, Access, access_of, All, AllByRecursion, ap, AreLaid, AreOpenings, arith, Bool, by_number, Cell, cell_info, cell_of, clashes_at, closing, cond, Contains, Contents, ContributesTo, count_by, data_operands, Deliver, deliver_row, Delivery, Dims, each_of, false, filter, first_copy_in, flat_map, fold, get_or, HasTakenPlan, HaveCopies, info_at, Init, inl, inr, is_data, is_first, is_other_access, is_read_only, is_redux, is_scratch, is_some, is_valued_child, IsCopyOf, IsDelivered, IsOrderly, IsOrderlyTask, IsPasteBetween, IsPlace, IsPlacedAt, IsPlain, IsSoundTaskAt, Kernel, kernel_of, Laid, length, Line, List, list_any, load_rows, Lowered, Mode, nat_eq, nat_le, nat_lt, no_task, None, not, open_at, opening_for, OpenReductions, Operand, operand_cell, Option, Parts, Paste, paste_row, pastes_of, pastes_to, PhaseOpening, places, print_block, Program, R, range_with_len, Reduction, Redux, refl, root_at, RootState, RW, same_cell, shut_by, Some, subst, sym, task_block, task_row, TaskBlock, TaskLine, true, unwrap_or, W, with_opening, with_shut, Worker, zip, ℕ, ◌+◌, ◌<◌, ◌∙◌, ◌∷◌, ◌≡◌}
+use Rattle.sj_core.specs.Proper.{access}
+use Rattle.std.proofs.lemmas.{Bool.and_from, Bool.cond_both, Bool.false_from_ne_true, Bool.false≢true, Bool.le-leb, Bool.lt-ltb, Bool.not-true, List.Elements.All-contains, List.Elements.All-filter, List.Elements.All-from_recursion, List.Elements.All-map, List.Elements.All-weaker, List.Elements.Contains-get_or, List.FromFn.get_or-range_with_len, List.FromFn.length-range_with_len, List.get_or-map, List.length-map, List.map-id}
+use Rattle.sj_base.proofs.{Bools.tally, Lists.each-weaker, Numbers.none_first}
+use Rattle.sj_core.proofs.{Dependencies.map-from, Readiness.AllPairs-two, Readiness.Contains-filter, Readiness.Contains-from_filter, Readiness.Contains-map, Readiness.filter-Contains, Sums.count-numbered}
 use Rattle.sj_plan.proofs.Lists.{count_by-map, each-flat_map, each-map, each-places}
-use Rattle.sj_meaning.specs.declared.job.Init.{Init}
-use Rattle.sj_meaning.specs.Statement.{Operand, TaskLine}
-use Rattle.sj_meaning.specs.State.{RootState, is_valued_child}
-use Rattle.sj_meaning.specs.Numbers.{root_at}
-use Rattle.sj_phases.specs.declared.phase.PhaseOpening.{PhaseOpening}
-use Rattle.sj_phases.specs.Block.{TaskBlock}
-use Rattle.sj_phases.specs.Plain.{OpenReductions, with_shut, with_opening, shut_by, open_at}
-use Rattle.sj_phases.specs.Orderly.{Contributes as ContributesTo, IsOrderlyTask, AreOpenings, IsDelivered, IsOrderly}
-use Rattle.sj_phases.proofs.Delivered.{IsOther, delivered-more, delivered-none}
-use Rattle.sj_phases.proofs.Expanded.{shuts}
-use Rattle.sj_phases.proofs.Lists.{first-has, all-from}
-use Rattle.sj_phases.proofs.Logging.{by_which, phase-own, phase-other}
-use Rattle.sj_phases.proofs.Owning.{copy-is}
-use Rattle.sj_lower.specs.Laid.{Laid, cell_of, info_at, first_copy_in}
-use Rattle.sj_lower.specs.Rows.{load_rows, paste_row, deliver_row}
-use Rattle.sj_lower.specs.SoundAt.{IsPlacedAt, IsSoundTaskAt, clashes_at}
-use Rattle.sj_lower.specs.Step.{by_number, closing, is_other_access, opening_for, operand_cell, access_of, task_row, task_block, a_delivery, print_block}
-use Rattle.sj_lower.specs.Whole.{AreLaid, HasTakenPlan, HaveCopies}
-use Rattle.sj_lower.proofs.Agrees.{AreOpenChildren}
-use Rattle.sj_lower.proofs.Contents.{same_cell-is}
-use Rattle.sj_lower.proofs.Doing.{the_cell, kernel_there}
-use Rattle.sj_lower.proofs.Good.{each-load}
-use Rattle.sj_lower.proofs.Keeping.{HasCells, HaveRoots}
-use Rattle.sj_lower.proofs.Modes.{contribution-modes}
-use Rattle.sj_lower.proofs.Operands.{Contributes, both-read, last-there, none-clash, none-filter, none-passes, one-opens, only-last, opening_by, placed-at}
-use Rattle.sj_lower.proofs.Pasting.{pastes-between}
-use Rattle.sj_lower.proofs.Taken.{cell-is, cell-inside, cells-apart, some_is, none_isn't}
+use Rattle.sj_phases.proofs.{Delivered.delivered-more, Delivered.delivered-none, Delivered.IsOther, Expanded.shuts, Lists.all-from, Lists.first-has, Logging.by_which, Logging.phase-other, Logging.phase-own, Owning.copy-is}
+use Rattle.sj_lower.proofs.{Agrees.AreOpenChildren, Contents.same_cell-is, Doing.kernel_there, Doing.the_cell, Good.each-load, Keeping.HasCells, Keeping.HaveRoots, Modes.contribution-modes, Operands.both-read, Operands.Contributes, Operands.last-there, Operands.none-clash, Operands.none-filter, Operands.none-passes, Operands.one-opens, Operands.only-last, Operands.opening_by, Operands.placed-at, Pasting.pastes-between, Taken.cell-inside, Taken.cell-is, Taken.cells-apart, Taken.none_isn't, Taken.some_is}
+use mathlib.Core.List.{map-map}
 
 -- ---- a child's cell is no partial copy
 

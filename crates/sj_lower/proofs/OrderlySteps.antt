@@ -1,44 +1,8 @@
 -- The block of each statement has what expanding it needs.
-use Rattle.std.proofs.Common.{◌≡◌, ℕ, Bool, cond, Option, Some, None, List, [], length, map as each_of, fold, refl, sym, ap, subst, ◌∙◌, inl, inr, arith}
-use Rattle.std.specs.Prelude.{Contains}
-use Rattle.std.specs.List.{list_any}
+use Rattle.sj_lower.proofs.Words.{[], Act, active_cells, ap, AreLaid, arith, Bool, by_number, cell_of, closing, cond, Contains, contributed, Dims, each_of, first_copy_in, fold, info_at, inl, inr, Invalidates, is_redux, is_valued, IsOrderly, IsPlace, IsSoundAt, IsSoundRegistrationAt, IsSoundTaskAt, Kernel, Laid, length, Line, List, list_any, Lives, Lowered, None, OpenReductions, Operand, operand_cell, Option, Parts, paste_row, pastes_of, places, Plans, Prints, Program, Reduces, Reduction, refl, Register, Registers, root_at, RootState, same_parts, Some, step_of, subst, sym, take, TaskLine, Tasks, Unregisters, with_copies, with_handle, ℕ, ◌∙◌, ◌≡◌}
 use Rattle.std.proofs.lemmas.Bool.{cases_Bool, cond_both, false≢true}
-use Rattle.sj_base.specs.declared.ids.Line.{Line}
-use Rattle.sj_base.specs.declared.tile.Dims.{Dims}
-use Rattle.sj_base.specs.declared.mode.Reduction.{Reduction}
-use Rattle.sj_base.specs.declared.program.Lowered.{Lowered}
-use Rattle.sj_base.specs.declared.program.Program.{Program}
-use Rattle.sj_base.specs.Mode.{is_redux}
-use Rattle.sj_codelet.specs.declared.kernel.Kernel.{Kernel}
 use Rattle.sj_core.proofs.Readiness.{Contains-map}
-use Rattle.sj_plan.specs.declared.parts.Parts.{Parts}
-use Rattle.sj_plan.specs.Parts.{IsPlace, places}
-use Rattle.sj_plan.specs.Paste.{pastes_of}
-use Rattle.sj_meaning.specs.Act.{Act, Register as Registers, Plan as Plans, Redux as Reduces, Task as Tasks, Print as Prints, Invalidate as Invalidates, Unregister as Unregisters}
-use Rattle.sj_meaning.specs.Statement.{Operand, TaskLine, Register}
-use Rattle.sj_meaning.specs.State.{RootState, is_valued}
-use Rattle.sj_meaning.specs.Numbers.{root_at}
-use Rattle.sj_phases.specs.Plain.{OpenReductions}
-use Rattle.sj_phases.specs.Orderly.{IsOrderly}
-use Rattle.sj_lower.specs.Cells.{same_parts}
-use Rattle.sj_lower.specs.Laid.{Laid, cell_of, info_at, first_copy_in, take, with_handle, with_copies}
-use Rattle.sj_lower.specs.Rows.{paste_row}
-use Rattle.sj_lower.specs.SoundAt.{Lives, IsSoundAt, IsSoundTaskAt, IsSoundRegistrationAt}
-use Rattle.sj_lower.specs.Step.{by_number, closing, contributed, operand_cell, active_cells, step_of}
-use Rattle.sj_lower.specs.Whole.{AreLaid}
-use Rattle.sj_lower.proofs.Agrees.{AreOpenChildren, Agrees}
-use Rattle.sj_lower.proofs.Contents.{contents_before}
-use Rattle.sj_lower.proofs.Contributing.{fold-handles, same-cells, roots-copied}
-use Rattle.sj_lower.proofs.Copying.{copied-first}
-use Rattle.sj_lower.proofs.Doing.{the_cell}
-use Rattle.sj_lower.proofs.Following.{IsAt}
-use Rattle.sj_lower.proofs.Keeping.{lives-below}
-use Rattle.sj_lower.proofs.Opens.{Takes, kept-cell, child-moved, place-in, takes-planned, takes-registered}
-use Rattle.sj_lower.proofs.Operands.{contributes-there, last-there, placed-at}
-use Rattle.sj_lower.proofs.Orderly.{orderly-nothing, orderly-loads, orderly-pastes, orderly-direct, orderly-gift, orderly-prints}
-use Rattle.sj_lower.proofs.Places.{parts-itself}
-use Rattle.sj_lower.proofs.Stepping.{keeps-step}
-use Rattle.sj_lower.proofs.Taken.{cell-inside, cells-apart}
+use Rattle.sj_lower.proofs.{Agrees.Agrees, Agrees.AreOpenChildren, Contents.contents_before, Contributing.fold-handles, Contributing.roots-copied, Contributing.same-cells, Copying.copied-first, Doing.the_cell, Following.IsAt, Keeping.lives-below, Opens.child-moved, Opens.kept-cell, Opens.place-in, Opens.Takes, Opens.takes-planned, Opens.takes-registered, Operands.contributes-there, Operands.last-there, Operands.placed-at, Orderly.orderly-direct, Orderly.orderly-gift, Orderly.orderly-loads, Orderly.orderly-nothing, Orderly.orderly-pastes, Orderly.orderly-prints, Places.parts-itself, Stepping.keeps-step, Taken.cell-inside, Taken.cells-apart}
 
 -- a child's cell on which no phase is open, where its plan is taken now: no open child is that of its root and plan
 not-open : (q : Program) (C D : Laid) (rs : List RootState) (n : ℕ) (was : OpenReductions) (m : ℕ) (d : Dims) (s : Parts) (place : ℕ × ℕ) → AreLaid D → Agrees q C rs n was → Takes C D m d s → IsPlace s place → ((i : ℕ) → Lives rs i → m ≡ i → s ≡ (root_at rs i).parts → ⊥) → was (cell_of D m s place) ≡ None

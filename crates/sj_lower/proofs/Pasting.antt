@@ -1,39 +1,8 @@
 -- The paste tasks of a plan line make in the new plan's cells what pastes make of the old plan's children.
-use Rattle.std.proofs.Common.{◌≡◌, ℕ, Bool, true, false, cond, ◌||◌, List, [], ◌∷◌, ◌++◌, pos, map, refl, sym, ap, subst, ◌∙◌}
-use Rattle.std.specs.List.{AllByRecursion, flat_map}
-use Rattle.std.proofs.lemmas.Bool.{cond_both, false≢true, or_left}
-use Rattle.std.proofs.lemmas.List.{map-append, length-replicate}
-use Rattle.sj_base.specs.declared.ids.Cell.{Cell}
-use Rattle.sj_base.specs.declared.ids.Line.{Line}
-use Rattle.sj_base.specs.declared.mode.Mode.TheVariants.{R, W, RW}
-use Rattle.sj_base.specs.declared.tile.Dims.{Dims}
-use Rattle.sj_base.specs.declared.program.Lowered.{Lowered}
-use Rattle.sj_base.specs.declared.program.Program.{Program}
-use Rattle.sj_base.specs.Array.{Array, area, zeros}
-use Rattle.sj_base.specs.Window.{pasted}
-use Rattle.sj_codelet.specs.declared.kernel.Kernel.TheVariants.{Paste as PasteKernel}
-use Rattle.sj_core.specs.Program.{same_cell, dims_of}
-use Rattle.sj_core.specs.Proper.{gives_value}
-use Rattle.sj_core.specs.Fold.{Contents, held_in}
-use Rattle.sj_plan.specs.declared.parts.Parts.{Parts}
-use Rattle.sj_plan.specs.declared.paste.Paste.{Paste}
-use Rattle.sj_plan.specs.Parts.{Fits, IsPlace, places}
-use Rattle.sj_plan.specs.Paste.{pieces, paste_copy, paste_at, overlaps, is_first, pastes_to, pastes_of, IsPasteBetween}
-use Rattle.sj_plan.specs.Pieces.{Copy, begins, copied, all_copied, BeginOnce}
-use Rattle.sj_plan.specs.Rect.{child, rect_dims}
-use Rattle.sj_plan.specs.Window.{window}
-use Rattle.sj_plan.proofs.Copying.{copies_to-begin, copy_between-within}
-use Rattle.sj_plan.proofs.Lists.{each-map, each-filter, each-places}
-use Rattle.sj_plan.proofs.Repartitioning.{pastes_to-copies, pastes_to-make}
-use Rattle.sj_plan.proofs.Splitting.{part_len-positive}
-use Rattle.sj_plan.proofs.Tiling.{children_of-tiling, children_of-order}
-use Rattle.sj_base.specs.Mode.{access}
-use Rattle.sj_phases.specs.Rows.{own_task}
-use Rattle.sj_lower.specs.Rows.{paste_arguments, paste_row}
-use Rattle.sj_lower.proofs.Contents.{held-same, held-other, same_cell-itself}
-use Rattle.sj_lower.proofs.Elements.{child-within}
-use Rattle.sj_lower.proofs.Filling.{AreFilled, HaveOwn, blocks-filled}
-use Rattle.sj_lower.proofs.Folding.{after_row, after_rows, one_gives, Fills}
+use Rattle.sj_lower.proofs.Words.{[], access, all_copied, AllByRecursion, ap, area, Array, BeginOnce, begins, Bool, Cell, child, cond, Contents, copied, Copy, Dims, dims_of, false, Fits, flat_map, gives_value, held_in, is_first, IsPasteBetween, IsPlace, Line, List, Lowered, map, overlaps, own_task, Parts, Paste, paste_arguments, paste_at, paste_copy, paste_row, pasted, PasteKernel, pastes_of, pastes_to, pieces, places, pos, Program, R, rect_dims, refl, RW, same_cell, subst, sym, true, W, window, zeros, ℕ, ◌++◌, ◌||◌, ◌∙◌, ◌∷◌, ◌≡◌}
+use Rattle.std.proofs.lemmas.{Bool.cond_both, Bool.false≢true, Bool.or_left, List.length-replicate, List.map-append}
+use Rattle.sj_plan.proofs.{Copying.copies_to-begin, Copying.copy_between-within, Lists.each-filter, Lists.each-map, Lists.each-places, Repartitioning.pastes_to-copies, Repartitioning.pastes_to-make, Splitting.part_len-positive, Tiling.children_of-order, Tiling.children_of-tiling}
+use Rattle.sj_lower.proofs.{Contents.held-other, Contents.held-same, Contents.same_cell-itself, Elements.child-within, Filling.AreFilled, Filling.blocks-filled, Filling.HaveOwn, Folding.after_row, Folding.after_rows, Folding.Fills, Folding.one_gives}
 
 -- ---- one paste
 

@@ -1,19 +1,9 @@
 -- A plan's children by their number, row by row.
-use Rattle.std.proofs.Common.{◌≡◌, ℕ, ◌+◌, ◌*◌, ◌/◌, ◌%◌, ◌<◌, true, map, length, take, get_or, sym, ap, ◌∙◌, arith}
-use Rattle.std.specs.Prelude.{nat_eq}
-use Rattle.std.specs.List.{flat_map, range_with_len}
-use Rattle.std.proofs.lemmas.Bool.{and_from, and_parts, eqb-true}
-use Rattle.std.proofs.lemmas.List.{map-id, length-map, get_or-map}
-use Rattle.std.proofs.lemmas.List.Concat.{get_or-flat_map}
-use Rattle.std.proofs.lemmas.List.FromFn.{length-range_with_len, get_or-range_with_len, length-map-range_with_len, get_or-map-range_with_len, take-map-range_with_len}
-use Rattle.std.proofs.lemmas.Nat.{div_below, mod_below, div-add-mod', mul-add-lt}
-use Rattle.sj_base.proofs.Bools.{nat_eq-itself}
-use Rattle.sj_base.proofs.Numbers.{none_first, some_factor}
-use Rattle.sj_plan.specs.declared.parts.Parts.{Parts}
-use Rattle.sj_plan.specs.Parts.{IsPlace, places, number}
-use Rattle.sj_plan.proofs.Lists.{grid_row}
-use Rattle.sj_plan.proofs.Windows.{length-rows}
-use Rattle.sj_lower.specs.Cells.{same_parts}
+use Rattle.sj_lower.proofs.Words.{ap, arith, flat_map, get_or, IsPlace, length, map, nat_eq, number, Parts, places, range_with_len, same_parts, sym, true, ℕ, ◌%◌, ◌*◌, ◌+◌, ◌/◌, ◌<◌, ◌∙◌, ◌≡◌}
+use Rattle.std.proofs.lemmas.{Bool.and_from, Bool.and_parts, Bool.eqb-true, List.Concat.get_or-flat_map, List.FromFn.get_or-map-range_with_len, List.FromFn.get_or-range_with_len, List.FromFn.length-map-range_with_len, List.FromFn.length-range_with_len, List.FromFn.take-map-range_with_len, List.get_or-map, List.length-map, List.map-id, Nat.div-add-mod', Nat.div_below, Nat.mod_below, Nat.mul-add-lt}
+use Rattle.sj_base.proofs.{Bools.nat_eq-itself, Numbers.none_first, Numbers.some_factor}
+use Rattle.sj_plan.proofs.{Lists.grid_row, Windows.length-rows}
+use Rattle.std.proofs.Common.{take}
 pub use Rattle.sj_plan.proofs.Repartitioning.{same_child_place-law as place-is, same_child_place-refl as place-itself}
 
 pub parts-are : (p q : Parts) → same_parts p q ≡ true → p ≡ q

@@ -1,36 +1,10 @@
 -- Deliveries that hand over the children of what the print statements find follow the print statements.
-use Rattle.std.proofs.Common.{◌≡◌, ℕ, zero, suc, ◌+◌, ◌<◌, ◌≤◌, true, false, Some, List, [], ◌∷◌, ◌++◌, pos, length, map as each_of, refl, sym, ap, subst, ◌∙◌, arith}
-use Rattle.std.specs.Prelude.{nat_eq, slice_get, IsPermutation}
-use Rattle.std.specs.List.{All, AllByRecursion, filter}
-use Rattle.std.proofs.lemmas.Bool.{ne_eqb}
-use Rattle.std.proofs.lemmas.Bool.Decides.{Decides-eqb}
-use Rattle.std.proofs.lemmas.List.{append-nil, length-map, length-replicate}
-use Rattle.std.proofs.lemmas.List.Elements.{All-from_recursion, filter-append}
-use Rattle.std.proofs.lemmas.List.Sorted.{IsPermutation-map, All-permutation}
-use Rattle.std.proofs.lemmas.Option.{none-some, same_Some, slice_get_within}
-use Rattle.std.proofs.lemmas.Simd.{map-map}
-use Rattle.sj_base.specs.declared.program.Delivery.{Delivery}
-use Rattle.sj_base.specs.declared.program.Program.{Program}
-use Rattle.sj_base.specs.Array.{Array, area, zeros}
-use Rattle.sj_base.proofs.Numbers.{none_first, none_more, one_more, positive_product}
-use Rattle.sj_plan.specs.declared.rect.Rect.{Rect}
-use Rattle.sj_plan.specs.Parts.{Fits, IsPlace, places}
-use Rattle.sj_plan.specs.Rect.{child, children_of, Within}
-use Rattle.sj_plan.specs.Window.{window, gathered}
-use Rattle.sj_plan.proofs.Gathering.{tiling-reassembles}
-use Rattle.sj_plan.proofs.Lists.{each-append, each-from_map, each-map, each-places, each-of, filter_all, filter_gone, map-filter, Ordered, ordered-append, ordered-from_map, ordered-from_pairs, ordered-map, pairs-from_ordered}
-use Rattle.sj_plan.proofs.Tiling.{children_of-tiling}
-use Rattle.sj_meaning.specs.Act.{Statement}
-use Rattle.sj_meaning.specs.State.{RootState}
-use Rattle.sj_meaning.specs.Meaning.{Printed, printed, root_array}
-use Rattle.sj_meaning.specs.Numbers.{name_at}
-use Rattle.sj_meaning.specs.Table.{Table, a_root, info_of}
+use Rattle.sj_lower.proofs.Words.{[], a_root, All, AllByRecursion, ap, area, arith, Array, child, children_of, deliveries_for, DeliversPrinted, Delivery, each_of, false, filter, Fits, gathered, handed_over, info_of, IsPermutation, IsPlace, IsPrinted, length, List, name_at, nat_eq, part_of, places, pos, Printed, printed, printed_as, Program, Rect, refl, root_array, RootState, slice_get, Some, Statement, subst, suc, sym, Table, true, window, Within, zero, zeros, ℕ, ◌++◌, ◌+◌, ◌<◌, ◌∙◌, ◌∷◌, ◌≡◌, ◌≤◌}
 use Rattle.sj_meaning.proofs.Mirroring.{printed_as as found_as}
-use Rattle.sj_phases.specs.Law.{handed_over}
-use Rattle.sj_lower.specs.Delivering.{part_of, deliveries_for, printed_as, IsPrinted, DeliversPrinted}
-use Rattle.sj_lower.proofs.Elements.{child-within}
-use Rattle.sj_lower.proofs.Handing.{Handed, piece, pieces_from}
-use Rattle.sj_lower.proofs.Places.{length-places}
+use Rattle.std.proofs.lemmas.{Bool.Decides.Decides-eqb, Bool.ne_eqb, List.append-nil, List.Elements.All-from_recursion, List.Elements.filter-append, List.length-map, List.length-replicate, List.Sorted.All-permutation, List.Sorted.IsPermutation-map, Option.none-some, Option.same_Some, Option.slice_get_within, Simd.map-map}
+use Rattle.sj_base.proofs.Numbers.{none_first, none_more, one_more, positive_product}
+use Rattle.sj_plan.proofs.{Gathering.tiling-reassembles, Lists.each-append, Lists.each-from_map, Lists.each-map, Lists.each-of, Lists.each-places, Lists.filter_all, Lists.filter_gone, Lists.map-filter, Lists.Ordered, Lists.ordered-append, Lists.ordered-from_map, Lists.ordered-from_pairs, Lists.ordered-map, Lists.pairs-from_ordered, Tiling.children_of-tiling}
+use Rattle.sj_lower.proofs.{Elements.child-within, Handing.Handed, Handing.piece, Handing.pieces_from, Places.length-places}
 
 -- ---- the pieces of print statements
 

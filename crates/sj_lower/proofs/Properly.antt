@@ -1,47 +1,9 @@
 -- The program of a job without phases is proper, and its blocks are orderly.
-use Rattle.std.proofs.Common.{◌≡◌, ℕ, ◌+◌, ◌<◌, ◌≤◌, ◌^◌, Bool, true, false, Some, List, [], ◌∷◌, length, get_or, map as each_of, refl, sym, ap, subst, ◌∙◌, inl, inr, arith}
-use Rattle.std.specs.Prelude.{All, Contains}
-use Rattle.std.specs.List.{flat_map}
-use Rattle.std.specs.Option.{is_some}
-use Rattle.std.proofs.lemmas.Bool.{cases_lt, cond_both, false≢true}
-use Rattle.std.proofs.lemmas.List.{get_or_past}
-use Rattle.std.proofs.lemmas.List.Elements.{All-append, All-cons, All-contains, All-from_get_or, All-get_or, All-map, All-nil, All-weaker}
-use Rattle.sj_base.specs.declared.ids.Cell.{Cell}
-use Rattle.sj_base.specs.declared.ids.Line.{Line}
-use Rattle.sj_base.specs.declared.ids.Worker.{Worker}
-use Rattle.sj_base.specs.declared.mode.Mode.TheVariants.{W, Redux}
-use Rattle.sj_base.specs.declared.mode.Access.{Access}
-use Rattle.sj_base.specs.declared.program.CellInfo.{CellInfo}
-use Rattle.sj_base.specs.declared.program.Lowered.{Lowered}
-use Rattle.sj_base.specs.declared.program.Program.{Program}
-use Rattle.sj_base.specs.Array.{area}
-use Rattle.sj_base.specs.Mode.{is_redux, reads_value}
-use Rattle.sj_codelet.specs.declared.kernel.Kernel.{Kernel}
-use Rattle.sj_core.specs.Program.{cell_info, task_of, no_cell, no_task}
-use Rattle.sj_core.specs.Proper.{Proper, FitsCodelet, IsUnaliased, IsCopyOf, IsPlain, IsPhase, HasValueBefore, task_number, access}
-use Rattle.sj_meaning.specs.Act.{Statement}
-use Rattle.sj_meaning.specs.State.{RootState}
-use Rattle.sj_meaning.specs.Numbers.{apply_at}
-use Rattle.sj_phases.specs.declared.phase.PhaseOpening.{PhaseOpening}
-use Rattle.sj_phases.specs.Block.{TaskBlock}
-use Rattle.sj_phases.specs.Rows.{init_row}
-use Rattle.sj_phases.specs.Expand.{first_units}
-use Rattle.sj_phases.specs.Plain.{OpenReductions, direct, direct_access, units, plain_rows, with_opening, shut_by, open_at}
-use Rattle.sj_phases.specs.Orderly.{IsOrderlyTask, AreOpenings, IsOrderly, AreOrderly, IsDelivered}
+use Rattle.sj_lower.proofs.Words.{[], Access, All, ap, apply_at, area, AreOpenings, AreOrderly, AreSoundAt, arith, Bool, by_number, Cell, cell_info, CellInfo, Contains, copy_info, direct, direct_access, each_of, false, first_units, FitsCodelet, flat_map, get_or, HasValueBefore, HaveCopies, info_at, init_row, inl, inr, is_redux, is_some, IsCopyOf, IsDelivered, IsOrderly, IsOrderlyTask, IsPhase, IsPlain, IsUnaliased, Kernel, Laid, length, Line, List, Lowered, LoweringStep, no_cell, no_task, open_at, OpenReductions, PhaseOpening, plain_rows, Program, Proper, reads_value, Redux, refl, RootState, shut_by, Some, Statement, step_of, steps_from, subst, sym, task_number, task_of, TaskBlock, true, units, W, with_opening, Worker, ℕ, ◌+◌, ◌<◌, ◌^◌, ◌∙◌, ◌∷◌, ◌≡◌, ◌≤◌}
+use Rattle.sj_core.specs.Proper.{access}
+use Rattle.std.proofs.lemmas.{Bool.cases_lt, Bool.cond_both, Bool.false≢true, List.Elements.All-append, List.Elements.All-cons, List.Elements.All-contains, List.Elements.All-from_get_or, List.Elements.All-get_or, List.Elements.All-map, List.Elements.All-nil, List.Elements.All-weaker, List.get_or_past}
 use Rattle.sj_phases.proofs.Good.{direct-redux}
-use Rattle.sj_lower.specs.Laid.{Laid, info_at}
-use Rattle.sj_lower.specs.Cells.{copy_info}
-use Rattle.sj_lower.specs.SoundAt.{AreSoundAt}
-use Rattle.sj_lower.specs.Step.{by_number, LoweringStep, step_of, steps_from}
-use Rattle.sj_lower.specs.Whole.{HaveCopies}
-use Rattle.sj_lower.proofs.Agrees.{Agrees}
-use Rattle.sj_lower.proofs.Contents.{task_at}
-use Rattle.sj_lower.proofs.Folding.{Stand}
-use Rattle.sj_lower.proofs.Following.{AllAgree, rows_from, laid_from}
-use Rattle.sj_lower.proofs.Good.{AreGood, IsGood, good-append, good-at}
-use Rattle.sj_lower.proofs.Goods.{goods-step}
-use Rattle.sj_lower.proofs.Orderly.{first-of}
-use Rattle.sj_lower.proofs.OrderlySteps.{orderly-step}
+use Rattle.sj_lower.proofs.{Agrees.Agrees, Contents.task_at, Folding.Stand, Following.AllAgree, Following.laid_from, Following.rows_from, Good.AreGood, Good.good-append, Good.good-at, Good.IsGood, Goods.goods-step, Orderly.first-of, OrderlySteps.orderly-step}
 
 -- ---- cells that tasks without phases access
 

@@ -1,35 +1,8 @@
 -- What a job's statements give is proper, with phases, and hands over what the print statements find.
-use Rattle.std.proofs.Common.{◌≡◌, ℕ, ◌<◌, ◌≤◌, ◌^◌, Bool, List, [], ◌∷◌, ◌++◌, length, map, fold, refl, sym, ap, subst, ◌∙◌, arith}
-use Rattle.std.proofs.lemmas.List.{append-nil}
-use Rattle.std.proofs.lemmas.List.Sums.{fold-append}
-use Rattle.sj_base.specs.declared.ids.Line.{Line}
-use Rattle.sj_base.specs.declared.program.CellInfo.{CellInfo}
-use Rattle.sj_base.specs.declared.program.Lowered.{Lowered}
-use Rattle.sj_base.specs.declared.program.Program.{Program}
-use Rattle.sj_codelet.specs.Kernel.{out}
-use Rattle.sj_codelet.specs.declared.kernel.Kernel.{Kernel}
-use Rattle.sj_core.specs.Laws.{IsLawful}
-use Rattle.sj_core.specs.Proper.{Proper}
-use Rattle.sj_meaning.specs.Act.{Statement}
-use Rattle.sj_meaning.specs.Numbers.{printed_at}
-use Rattle.sj_phases.specs.Block.{TaskBlock}
-use Rattle.sj_phases.specs.Expand.{nothing, expand, cells_below, last_block}
-use Rattle.sj_phases.specs.Plain.{OpenReductions, Plainly, plain_next, plain_program, none_open, open_at}
-use Rattle.sj_phases.specs.Orderly.{IsOrderly, AreOrderly, IsDelivered}
-use Rattle.sj_phases.specs.Law.{program_of_blocks, handed_over, MayExpand}
-use Rattle.sj_phases.proofs.Expanded.{delivered, proper, holds_plain, last-shuts, start}
-use Rattle.sj_lower.specs.Laid.{no_cells}
-use Rattle.sj_lower.specs.SoundAt.{AreSoundAt}
-use Rattle.sj_lower.proofs.Agrees.{Agrees}
-use Rattle.sj_lower.proofs.Copying.{copies-none}
-use Rattle.sj_lower.proofs.Folding.{Stand, stand-there}
-use Rattle.sj_lower.proofs.Following.{AllAgree, all-agree, laid_from, laid-grows, rows_from}
-use Rattle.sj_lower.proofs.Growing.{Grows, grows-refl}
-use Rattle.sj_lower.proofs.Handing.{pieces_from, deliveries_from, all-handed, plain-tasks, plain-deliveries}
-use Rattle.sj_lower.proofs.Opens.{opens-step}
-use Rattle.sj_lower.proofs.Orderly.{orderly-nothing}
-use Rattle.sj_lower.proofs.Properly.{blocks_from, orderly-all, proper-plain}
-use Rattle.sj_lower.proofs.Taken.{laid-none, none_isn't}
+use Rattle.sj_lower.proofs.Words.{[], ap, AreOrderly, AreSoundAt, arith, Bool, CellInfo, cells_below, expand, fold, handed_over, IsDelivered, IsLawful, IsOrderly, Kernel, last_block, length, Line, List, Lowered, map, MayExpand, no_cells, none_open, nothing, open_at, OpenReductions, out, plain_next, plain_program, Plainly, printed_at, Program, program_of_blocks, Proper, refl, Statement, subst, sym, TaskBlock, ℕ, ◌++◌, ◌<◌, ◌^◌, ◌∙◌, ◌∷◌, ◌≡◌, ◌≤◌}
+use Rattle.std.proofs.lemmas.{List.append-nil, List.Sums.fold-append}
+use Rattle.sj_phases.proofs.Expanded.{delivered, holds_plain, last-shuts, proper, start}
+use Rattle.sj_lower.proofs.{Agrees.Agrees, Copying.copies-none, Folding.Stand, Folding.stand-there, Following.all-agree, Following.AllAgree, Following.laid-grows, Following.laid_from, Following.rows_from, Growing.Grows, Growing.grows-refl, Handing.all-handed, Handing.deliveries_from, Handing.pieces_from, Handing.plain-deliveries, Handing.plain-tasks, Opens.opens-step, Orderly.orderly-nothing, Properly.blocks_from, Properly.orderly-all, Properly.proper-plain, Taken.laid-none, Taken.none_isn't}
 
 -- before the first statement
 agrees-start : (q : Program) → Grows [] q.cells → Agrees q no_cells [] 0 none_open

@@ -1,12 +1,8 @@
 -- Lists to which a loop appends.
-use Rattle.std.proofs.Common.{◌≡◌, ℕ, ◌+◌, ◌<◌, ◌≤◌, List, [], ◌∷◌, ◌++◌, map, take, get_or, length, refl, sym, ap, subst, ◌∙◌, append_assoc}
-use Rattle.sj_base.specs.declared.ids.Line.{Line}
-use Rattle.sj_base.specs.declared.program.Lowered.{Lowered}
-use Rattle.sj_phases.specs.declared.expander.Expander.{Expander}
-use Rattle.sj_phases.specs.Does.{Does}
-use Rattle.sj_phases.specs.Expand.{with_own}
+use Rattle.sj_lower.proofs.Words.{[], ap, append_assoc, Does, Expander, get_or, length, Line, List, Lowered, map, refl, subst, sym, with_own, ℕ, ◌++◌, ◌+◌, ◌<◌, ◌∙◌, ◌∷◌, ◌≡◌, ◌≤◌}
 use Rattle.sj_phases.proofs.Doing.{does-more}
-use Rattle.std.proofs.lemmas.List.{get_or_default, take_all, map_more}
+use Rattle.std.proofs.lemmas.List.{get_or_default, map_more, take_all}
+use Rattle.std.proofs.Common.{take}
 
 -- one item more
 pub pushed : {X Y : Type 0} (f : X → Y) (xs : List X) (start now next : List Y) (i : ℕ) (x : X) → i < length xs → now ≡ start ++ map f (take i xs) → next ≡ now ++ f x ∷ [] → x ≡ get_or xs i x → next ≡ start ++ map f (take (i + 1) xs)

@@ -1,45 +1,10 @@
 -- One statement after another, up to the end.
-use Rattle.std.proofs.Common.{◌≡◌, ℕ, ◌+◌, ◌*◌, ◌<◌, ◌≤◌, Bool, true, false, cond, nat_lt, Option, Some, None, List, [], ◌∷◌, ◌++◌, length, map, fold, refl, sym, ap, subst, ◌∙◌, arith, length-append}
-use Rattle.std.specs.Prelude.{find, option_map}
-use Rattle.std.proofs.lemmas.Bool.{cond_both, le-ltb, lt-ltb}
-use Rattle.std.proofs.lemmas.List.{length-map}
-use Rattle.std.proofs.lemmas.List.Sums.{fold-append}
-use Rattle.sj_base.specs.declared.ids.Cell.{Cell}
-use Rattle.sj_base.specs.declared.ids.Line.{Line}
-use Rattle.sj_base.specs.declared.program.Program.{Program}
-use Rattle.sj_base.proofs.Lists.{cons_same}
-use Rattle.sj_base.proofs.Numbers.{positive_product}
-use Rattle.sj_codelet.specs.declared.kernel.Kernel.{Kernel}
-use Rattle.sj_meaning.specs.declared.job.Statement.{Statement as Kept}
-use Rattle.sj_meaning.specs.Act.{Act, Register as Registers, Plan as Plans, Task as Tasks, Print as Prints}
-use Rattle.sj_meaning.specs.State.{RootState, is_valued}
-use Rattle.sj_meaning.specs.Numbers.{root_at, act_at, apply_at, statements_from}
-use Rattle.sj_meaning.specs.Table.{Table}
-use Rattle.sj_meaning.specs.View.{count_after, count_from, says_value, values_said}
-use Rattle.sj_meaning.proofs.Timely.{length-apply}
-use Rattle.sj_meaning.proofs.Views.{counts-grow}
-use Rattle.sj_phases.specs.Block.{TaskBlock}
-use Rattle.sj_phases.specs.Does.{over_after}
-use Rattle.sj_phases.specs.Expand.{Expansion, nothing, prepared, expanded, expand, first_above, last_block, program_from, most}
-use Rattle.sj_phases.specs.Plain.{OpenReductions, open_at, plain_rows}
-use Rattle.sj_phases.proofs.Blocks.{GoesOn, goes-expanded, goes-closes}
-use Rattle.sj_lower.specs.declared.steps.Steps.{Steps}
-use Rattle.sj_lower.specs.Adds.{Goes, finds_at}
-use Rattle.sj_lower.specs.Laid.{Laid, no_cells, cell_of, take}
-use Rattle.sj_lower.specs.Running.{MayComeInTurn, line_or, steps_at, blocks_in, LeavesStatements}
-use Rattle.sj_lower.specs.SoundAt.{IsSoundAt, AreSoundAt}
-use Rattle.sj_lower.specs.Step.{LoweringStep, by_number, closing, step_of, steps_from, laid_by, last_line, blocks_by, program_by, cells_above, tasks_above, operand_cell, contributed, active_cells}
-use Rattle.sj_lower.specs.Whole.{AreLaidFor}
-use Rattle.sj_lower.proofs.Agrees.{Agrees}
-use Rattle.sj_lower.proofs.Copying.{copies-prints}
-use Rattle.sj_lower.proofs.Following.{AllAgree}
-use Rattle.sj_lower.proofs.Naming.{Knows, AreTold, knows-apply}
-use Rattle.sj_lower.proofs.Places.{length-places}
-use Rattle.sj_lower.proofs.Values.{values_at}
-use Rattle.sj_lower.proofs.Taken.{take-prints}
-use Rattle.sj_lower.specs.Rows.{deliver_row, paste_row}
-use Rattle.sj_lower.specs.Cells.{same_parts}
-use Rattle.sj_plan.specs.Paste.{pastes_of}
+use Rattle.sj_lower.proofs.Words.{[], Act, act_at, active_cells, ap, apply_at, AreLaidFor, AreSoundAt, arith, blocks_by, blocks_in, Bool, by_number, Cell, cell_of, cells_above, closing, cond, contributed, count_after, count_from, deliver_row, expand, expanded, Expansion, false, find, finds_at, first_above, fold, Goes, is_valued, IsSoundAt, Kept, Kernel, Laid, laid_by, last_block, last_line, LeavesStatements, length, length-append, Line, line_or, List, LoweringStep, map, MayComeInTurn, most, nat_lt, no_cells, None, nothing, open_at, OpenReductions, operand_cell, Option, option_map, over_after, paste_row, pastes_of, plain_rows, Plans, prepared, Prints, Program, program_by, program_from, refl, Registers, root_at, RootState, same_parts, says_value, Some, statements_from, step_of, Steps, steps_at, steps_from, subst, sym, Table, take, TaskBlock, Tasks, tasks_above, true, values_said, ℕ, ◌*◌, ◌++◌, ◌+◌, ◌<◌, ◌∙◌, ◌∷◌, ◌≡◌, ◌≤◌}
+use Rattle.std.proofs.lemmas.{Bool.cond_both, Bool.le-ltb, Bool.lt-ltb, List.length-map, List.Sums.fold-append}
+use Rattle.sj_base.proofs.{Lists.cons_same, Numbers.positive_product}
+use Rattle.sj_meaning.proofs.{Timely.length-apply, Views.counts-grow}
+use Rattle.sj_phases.proofs.Blocks.{goes-closes, goes-expanded, GoesOn}
+use Rattle.sj_lower.proofs.{Agrees.Agrees, Copying.copies-prints, Following.AllAgree, Naming.AreTold, Naming.Knows, Naming.knows-apply, Places.length-places, Taken.take-prints, Values.values_at}
 
 -- ---- what is so before each statement
 

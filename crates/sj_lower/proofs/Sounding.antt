@@ -1,37 +1,9 @@
 -- An act that is sound by its roots' names is so by their numbers.
-use Rattle.std.proofs.Common.{◌≡◌, ℕ, ◌<◌, Bool, true, false, ◌&&◌, ◌||◌, not, Option, Some, None, List, [], ◌∷◌, length, map, refl, ap, sym, subst, ◌∙◌, bytes_eq}
-use Rattle.std.specs.Prelude.{nat_eq}
-use Rattle.std.specs.List.{AllByRecursion, list_all, list_any}
-use Rattle.std.specs.Option.{is_none}
-use Rattle.std.proofs.lemmas.Bool.{false≢true, and_parts, eq-eqb, eqb-true}
-use Rattle.std.proofs.lemmas.List.{length-map}
-use Rattle.std.proofs.lemmas.Slice.Eq.{bytes_eq-Decides}
-use Rattle.sj_base.proofs.Bools.{same_test}
-use Rattle.sj_base.proofs.Lists.{list_any-map}
-use Rattle.sj_base.specs.declared.tile.Dims.{Dims}
-use Rattle.sj_base.specs.declared.mode.Reduction.{Reduction}
-use Rattle.sj_base.specs.Array.{area}
-use Rattle.sj_codelet.specs.declared.kernel.Kernel.{Kernel}
-use Rattle.sj_codelet.specs.declared.kernel.Kernel.TheVariants.{Deliver}
-use Rattle.sj_codelet.specs.declared.formal.Formal.{Formal}
-use Rattle.sj_codelet.specs.Kernel.{kernel_of, fits_in}
-use Rattle.sj_codelet.specs.Runs.{formals_in}
-use Rattle.sj_plan.specs.Parts.{Fits}
-use Rattle.sj_plan.specs.Paste.{same_child_place}
-use Rattle.sj_plan.specs.Rect.{rect_dims}
-use Rattle.sj_meaning.specs.Statement.{Operand, TaskLine}
-use Rattle.sj_meaning.specs.Act.{Act, Register as Registers, Plan as Plans, Redux as Reduces, Task as Tasks, Print as Prints, Invalidate as Invalidates, Unregister as Unregisters}
-use Rattle.sj_meaning.specs.State.{RootState, JobState, root_of, is_valued, has_no_value, is_child, child_rect, is_valued_child}
-use Rattle.sj_meaning.specs.Meaning.{written_of}
-use Rattle.sj_meaning.specs.Numbers.{name_at, operand_named_by, task_named_by, act_named_by, root_at}
+use Rattle.sj_lower.proofs.Words.{[], Act, act_named_by, AllByRecursion, ap, area, AreDistinct, Bool, bytes_eq, child_dims_at, child_rect, clashes_at, Deliver, Dims, false, Fits, fits_in, Formal, formals_in, has_no_value, has_value, Invalidates, is_aliased_at, is_child, is_lawful_for, is_none, is_read_only, is_unordered, is_valued, is_valued_child, IsPlacedAt, IsSoundAct, IsSoundAt, IsSoundTaskAt, JobState, Kernel, kernel_of, length, List, list_all, list_any, Lives, map, mode_fits, modes_fit_at, name_at, nat_eq, needs_value, None, not, Operand, operand_named_by, Option, Plans, Prints, rect_dims, Reduces, Reduction, refl, Registers, root_at, root_of, RootState, same_child_place, Some, subst, sym, task_named_by, TaskLine, Tasks, true, Unregisters, written_of, ℕ, ◌&&◌, ◌<◌, ◌||◌, ◌∙◌, ◌∷◌, ◌≡◌}
+use Rattle.std.proofs.lemmas.{Bool.and_parts, Bool.eq-eqb, Bool.eqb-true, Bool.false≢true, List.length-map, Slice.Eq.bytes_eq-Decides}
+use Rattle.sj_base.proofs.{Bools.same_test, Lists.list_any-map}
+use Rattle.sj_meaning.proofs.{Children.place-from_test, Finding.text-itself, Mirroring.IsMirror, Mirroring.IsThere, Mirroring.IsTimely, Mirroring.root-there, Mirroring.written-by}
 use Rattle.sj_meaning.specs.Sound as by_name
-use Rattle.sj_meaning.specs.Sound.{mode_fits, is_unordered, is_lawful_for, needs_value, IsSoundAct}
-use Rattle.sj_base.specs.Mode.{is_read_only}
-use Rattle.sj_meaning.specs.Table.{AreDistinct}
-use Rattle.sj_meaning.proofs.Children.{place-from_test}
-use Rattle.sj_meaning.proofs.Mirroring.{IsThere, IsMirror, IsTimely, root-there, written-by}
-use Rattle.sj_meaning.proofs.Finding.{text-itself}
-use Rattle.sj_lower.specs.SoundAt.{Lives, child_dims_at, has_value, modes_fit_at, clashes_at, is_aliased_at, IsPlacedAt, IsSoundTaskAt, IsSoundAt}
 
 -- a job can't name the codelet that delivers
 abbrev pub IsSilent : Act ℕ → Type 0

@@ -1,26 +1,9 @@
 -- By their roots' names and by their numbers statements give the same cells and blocks.
-use Rattle.std.proofs.Common.{◌≡◌, ℕ, Bool, true, List, [], ◌∷◌, ◌++◌, map, filter, fold, refl, ap, sym, ◌∙◌}
-use Rattle.std.specs.List.{AllByRecursion, flat_map}
-use Rattle.std.proofs.lemmas.List.Folds.{flat_map-map}
-use Rattle.std.proofs.lemmas.Simd.{map-map}
-use Rattle.sj_base.specs.declared.ids.Line.{Line}
-use Rattle.sj_base.specs.declared.ids.Cell.{Cell}
-use Rattle.sj_base.specs.declared.mode.Access.{Access}
-use Rattle.sj_base.specs.Mode.{is_redux}
+use Rattle.sj_lower.proofs.Words.{[], Access, access_of, Act, act_named_by, active_cells, AllByRecursion, ap, apply, apply_at, AreDistinct, Bool, by_name, by_number, Cell, cell_of, closing, contributed, filter, flat_map, fold, Invalidates, is_other_access, is_redux, JobState, Laid, Line, List, Lookup, LoweringStep, map, name_at, opening_for, Operand, operand_cell, operand_named_by, PhaseOpening, places, plan_block, Plans, print_block, Prints, refl, RootState, Statement, statement_named_by, step, step_of, steps_from, sym, take, task_block, task_named_by, TaskLine, Tasks, true, Unregisters, with_copies, with_print, ℕ, ◌++◌, ◌∙◌, ◌∷◌, ◌≡◌}
+use Rattle.std.proofs.lemmas.{List.Folds.flat_map-map, Simd.map-map}
 use Rattle.sj_base.proofs.Lists.{each-weaker}
-use Rattle.sj_plan.specs.Parts.{places}
 use Rattle.sj_plan.proofs.Lists.{each-filter, map-filter}
-use Rattle.sj_meaning.specs.Statement.{Operand, TaskLine}
-use Rattle.sj_meaning.specs.Act.{Act, Statement, Plan as Plans, Task as Tasks, Print as Prints, Invalidate as Invalidates, Unregister as Unregisters}
-use Rattle.sj_meaning.specs.State.{RootState, JobState}
-use Rattle.sj_meaning.specs.Table.{AreDistinct}
-use Rattle.sj_meaning.specs.Meaning.{apply}
-use Rattle.sj_meaning.specs.Numbers.{name_at, operand_named_by, task_named_by, act_named_by, statement_named_by, apply_at}
-use Rattle.sj_meaning.proofs.Mirroring.{IsThere, IsMirror, IsTimely, AreTimely, mirror-apply}
-use Rattle.sj_meaning.proofs.Timely.{number-named}
-use Rattle.sj_phases.specs.declared.phase.PhaseOpening.{PhaseOpening}
-use Rattle.sj_lower.specs.Laid.{Laid, cell_of, take, with_print, with_copies}
-use Rattle.sj_lower.specs.Step.{Lookup, by_name, by_number, operand_cell, active_cells, closing, plan_block, is_other_access, contributed, access_of, opening_for, task_block, print_block, LoweringStep, step, step_of, steps_from}
+use Rattle.sj_meaning.proofs.{Mirroring.AreTimely, Mirroring.IsMirror, Mirroring.IsThere, Mirroring.IsTimely, Mirroring.mirror-apply, Timely.number-named}
 
 -- ---- lists
 

@@ -1,47 +1,9 @@
 -- A registration and a plan line leave in the cells of a root's children what the children hold, by the roots' numbers.
-use Rattle.std.proofs.Common.{◌≡◌, ℕ, ◌+◌, ◌<◌, true, false, cond, ◌||◌, None, List, [], ◌∷◌, ◌++◌, ℤ, pos, length, map as each_of, refl, sym, ap, subst, ◌∙◌, inl, inr, arith, length-append}
+use Rattle.sj_lower.proofs.Words.{[], ap, area, AreLaid, arith, Array, array, Cell, cell_of, change_at, child, child_array, cond, Contents, Dims, each_of, false, Fill, fill_arguments, fill_row, first_elements, Fits, gives_value, Handle, handle_at, handle_of, has_no_value, HasTakenPlan, HaveCopies, held_in, Init, InitFits, inl, inr, is_valued, is_valued_child, IsPlace, IsSoundPlanAt, IsSoundRegistrationAt, Kind, Laid, length, length-append, Line, List, Load, load_row, load_rows, LoadFill, loadfill, Lowered, no_root, None, Nothing, Parts, paste_row, pastes_of, places, pos, Program, refl, Register, registered_root, root_array, root_at, RootState, same_cell, same_parts, subst, sym, take, true, Values, window, with_handle, with_parts, zeros, ℕ, ℤ, ◌++◌, ◌+◌, ◌<◌, ◌||◌, ◌∙◌, ◌∷◌, ◌≡◌}
 use Rattle.std.proofs.Math.Seq.{get_or-append_seam}
-use Rattle.std.proofs.lemmas.Bool.{cases_lt, cond_both, false≢true}
-use Rattle.std.proofs.lemmas.List.{length-set, get_or_append_left, get_or_past}
-use Rattle.sj_base.specs.declared.ids.Cell.{Cell}
-use Rattle.sj_base.specs.declared.ids.Line.{Line}
-use Rattle.sj_base.specs.declared.tile.Dims.{Dims}
-use Rattle.sj_base.specs.declared.program.Lowered.{Lowered}
-use Rattle.sj_base.specs.declared.program.Program.{Program}
-use Rattle.sj_base.specs.Array.{Array, array, area, zeros}
-use Rattle.sj_codelet.specs.Equations.{loadfill}
-use Rattle.sj_codelet.specs.declared.kernel.Kernel.TheVariants.{Load, LoadFill}
-use Rattle.sj_core.specs.Program.{same_cell}
-use Rattle.sj_core.specs.Proper.{gives_value}
-use Rattle.sj_core.specs.Fold.{Contents, held_in}
-use Rattle.sj_plan.specs.declared.parts.Parts.{Parts}
-use Rattle.sj_plan.specs.Parts.{Fits, IsPlace, places}
-use Rattle.sj_plan.specs.Paste.{pastes_of}
-use Rattle.sj_plan.specs.Rect.{child}
-use Rattle.sj_plan.specs.Window.{window}
-use Rattle.sj_meaning.specs.declared.job.Kind.{Kind}
-use Rattle.sj_meaning.specs.declared.job.Init.{Init}
-use Rattle.sj_meaning.specs.declared.job.Init.TheVariants.{Values, Fill, Nothing}
-use Rattle.sj_meaning.specs.Statement.{Register}
-use Rattle.sj_meaning.specs.State.{RootState, is_valued, has_no_value, is_valued_child}
-use Rattle.sj_meaning.specs.Meaning.{root_array, child_array, first_elements, registered_root, with_parts}
-use Rattle.sj_meaning.specs.Numbers.{no_root, root_at, change_at}
-use Rattle.sj_meaning.specs.Sound.{InitFits}
+use Rattle.std.proofs.lemmas.{Bool.cases_lt, Bool.cond_both, Bool.false≢true, List.get_or_append_left, List.get_or_past, List.length-set}
 use Rattle.sj_meaning.proofs.Children.{first_length}
-use Rattle.sj_lower.specs.Cells.{same_parts}
-use Rattle.sj_lower.specs.Laid.{Laid, Handle, handle_of, handle_at, cell_of, take, with_handle}
-use Rattle.sj_lower.specs.Rows.{load_row, fill_row, fill_arguments, paste_row, load_rows}
-use Rattle.sj_lower.specs.SoundAt.{IsSoundRegistrationAt, IsSoundPlanAt}
-use Rattle.sj_lower.specs.Whole.{HasTakenPlan, AreLaid, HaveCopies}
-use Rattle.sj_lower.proofs.Contents.{contents_before}
-use Rattle.sj_lower.proofs.Copying.{copies-root, copies-take}
-use Rattle.sj_lower.proofs.Elements.{child-within, child-window, valued-child, blank-child, no_values-blank, unwrapped, filled-window}
-use Rattle.sj_lower.proofs.Filling.{AreFilled, HaveOwn, rows-filled, rows-give, blocks-give, after_load, after_fill, gives_own}
-use Rattle.sj_lower.proofs.Folding.{Stand, after_row, after_rows, contents-rows, one_gives, given-rows}
-use Rattle.sj_lower.proofs.Keeping.{IsHeld, HasRoot, HaveRoots, HasCells, differs, holds-changed, root-kept, held-kept, cell-dims, lives-below, changed-here, changed-beside}
-use Rattle.sj_lower.proofs.Taken.{cells-apart, laid-root, laid-take, keeps-root, root-there, take-keeps, take-takes, take-handles}
-use Rattle.sj_lower.proofs.Pasting.{rows_to, rows-by_child, pastes-filled, pastes-give}
-use Rattle.sj_lower.proofs.Places.{parts-are, parts-itself}
+use Rattle.sj_lower.proofs.{Contents.contents_before, Copying.copies-root, Copying.copies-take, Elements.blank-child, Elements.child-window, Elements.child-within, Elements.filled-window, Elements.no_values-blank, Elements.unwrapped, Elements.valued-child, Filling.after_fill, Filling.after_load, Filling.AreFilled, Filling.blocks-give, Filling.gives_own, Filling.HaveOwn, Filling.rows-filled, Filling.rows-give, Folding.after_row, Folding.after_rows, Folding.contents-rows, Folding.given-rows, Folding.one_gives, Folding.Stand, Keeping.cell-dims, Keeping.changed-beside, Keeping.changed-here, Keeping.differs, Keeping.HasCells, Keeping.HasRoot, Keeping.HaveRoots, Keeping.held-kept, Keeping.holds-changed, Keeping.IsHeld, Keeping.lives-below, Keeping.root-kept, Pasting.pastes-filled, Pasting.pastes-give, Pasting.rows-by_child, Pasting.rows_to, Places.parts-are, Places.parts-itself, Taken.cells-apart, Taken.keeps-root, Taken.laid-root, Taken.laid-take, Taken.root-there, Taken.take-handles, Taken.take-keeps, Taken.take-takes}
 
 -- two children of a plan have two cells
 own_cells : (C : Laid) (m : ℕ) (d : Dims) (s : Parts) (f : ℕ) → AreLaid C → HasTakenPlan C m d s f → HaveOwn s (cell_of C m s)

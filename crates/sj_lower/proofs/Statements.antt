@@ -1,52 +1,10 @@
 -- What each kind of statement does, by what the code's calls gave.
-use Rattle.std.proofs.Common.{◌≡◌, ℕ, ◌+◌, ◌*◌, ◌<◌, ◌≤◌, Bool, true, false, cond, Option, Some, None, IfSome, IfNone, List, [], ◌∷◌, ◌++◌, length, map as each_of, fold, refl, sym, ap, subst, ◌∙◌, arith, length-append}
-use Rattle.std.specs.Prelude.{set, unwrap_or, zip}
-use Rattle.std.specs.List.{range_with_len}
+use Rattle.sj_lower.proofs.Words.{[], a_delivery, a_root, Active, active_at, active_cells, AddsAct, ap, AreActive, AreLaid, arith, Bool, by_number, Cell, cell_of, cells_by, cells_from, change_at, children_count, closed, closing, cond, deliver_row, Delivery, Dims, Does, each_of, expanded, Expander, Expansion, false, first_cell, Fits, fold, Follows, get, Goes, Handle, handle_at, handle_of, HasAt, HasCells, HasNext, IfNone, IfSome, info_of, Init, InitFits, is_valued, IsActive, IsFull, KeptAct, Laid, Layout, Lays, length, length-append, Line, List, Lives, load_rows, Lowered, MayComeNext, most, no_root, no_values, None, Option, Parts, paste_row, pastes_of, Placed, places, range_with_len, Reduction, refl, Register, registered_root, registration_at, root_at, RootInfo, RootNumber, RootState, same_parts, same_taken, set, Some, Steps, StepsAt, subst, sym, Table, take, taken_plan, TaskBlock, TooManyCells, true, unwrap_or, with_elements, with_handle, with_own, with_parts, with_print, with_reduction, zip, ℕ, ◌*◌, ◌++◌, ◌+◌, ◌<◌, ◌∙◌, ◌∷◌, ◌≡◌, ◌≤◌}
 use Rattle.std.proofs.lemmas.Simd.{map-map}
-use Rattle.indexmap.specs.IndexMap.{get}
-use Rattle.sj_base.specs.declared.ids.Cell.{Cell}
-use Rattle.sj_base.specs.declared.ids.Line.{Line}
-use Rattle.sj_base.specs.declared.ids.Root.{Root as RootNumber}
-use Rattle.sj_base.specs.declared.mode.Reduction.{Reduction}
-use Rattle.sj_base.specs.declared.program.Delivery.{Delivery}
-use Rattle.sj_base.specs.declared.program.Lowered.{Lowered}
-use Rattle.sj_base.specs.declared.tile.Dims.{Dims}
 use Rattle.sj_base.proofs.Options.{IfSome-at}
-use Rattle.sj_plan.specs.declared.parts.Parts.{Parts}
-use Rattle.sj_plan.specs.Parts.{Fits, places, children_count}
-use Rattle.sj_plan.specs.Paste.{pastes_of}
-use Rattle.sj_meaning.specs.declared.job.Init.{Init}
-use Rattle.sj_meaning.specs.declared.job.RootInfo.{RootInfo}
-use Rattle.sj_meaning.specs.declared.job.Act.{Act as KeptAct}
+use Rattle.sj_lower.proofs.{Arms.does-block, Arms.does-closing, Arms.does-empty, Arms.does-if, Arms.does-start-close, Arms.early-before, Arms.goes, Arms.goes-kept, Arms.keeps-change, Arms.kept-end, Arms.kept-of, Keeping.lives-below, Laying.active-set, Laying.cells-same, Laying.follows-kept, Laying.has-cells, Laying.keeps-take, Taken.laid-root, Taken.laid-take, Taken.root-there, Taken.take-prints}
 use Rattle.sj_meaning.specs.declared.job.Act.TheVariants as kept
-use Rattle.sj_meaning.specs.Statement.{Register}
-use Rattle.sj_meaning.specs.State.{RootState, is_valued}
-use Rattle.sj_meaning.specs.Meaning.{registered_root, with_parts, with_reduction, with_elements, no_values}
-use Rattle.sj_meaning.specs.Numbers.{root_at, no_root, change_at, registration_at}
-use Rattle.sj_meaning.specs.Sound.{InitFits}
-use Rattle.sj_meaning.specs.Table.{Table, a_root, info_of}
-use Rattle.sj_phases.specs.declared.expander.Expander.{Expander}
-use Rattle.sj_phases.specs.Block.{TaskBlock}
-use Rattle.sj_phases.specs.Does.{HasAt, Does}
-use Rattle.sj_phases.specs.Expand.{Expansion, closed, expanded, with_own, most}
-use Rattle.sj_lower.specs.declared.contributions.StepRefusal.TheVariants.{TooManyCells}
-use Rattle.sj_lower.specs.declared.layout.Active.{Active}
-use Rattle.sj_lower.specs.declared.layout.Layout.{Layout}
-use Rattle.sj_lower.specs.declared.rows.Placed.{Placed}
-use Rattle.sj_lower.specs.declared.steps.Steps.{Steps}
-use Rattle.sj_lower.specs.Adds.{StepsAt, MayComeNext, HasNext, Goes, AddsAct, IsFull}
-use Rattle.sj_lower.specs.Cells.{cells_from, same_parts}
-use Rattle.sj_lower.specs.Follows.{taken_plan, same_taken, Lays, Follows, AreActive, IsActive, active_at, HasCells, cells_by}
-use Rattle.sj_lower.specs.Laid.{Laid, Handle, handle_at, handle_of, first_cell, cell_of, take, with_handle, with_print}
-use Rattle.sj_lower.specs.Rows.{load_rows, paste_row, deliver_row}
-use Rattle.sj_lower.specs.SoundAt.{Lives}
-use Rattle.sj_lower.specs.Step.{by_number, closing, active_cells, a_delivery}
 use Rattle.sj_lower.specs.Step as step
-use Rattle.sj_lower.specs.Whole.{AreLaid}
-use Rattle.sj_lower.proofs.Arms.{early-before, does-if, does-block, does-closing, does-empty, does-start-close, goes, goes-kept, keeps-change, kept-of, kept-end}
-use Rattle.sj_lower.proofs.Keeping.{lives-below}
-use Rattle.sj_lower.proofs.Laying.{active-set, keeps-take, follows-kept, cells-same, has-cells}
-use Rattle.sj_lower.proofs.Taken.{laid-root, laid-take, root-there, take-prints}
 
 -- ---- what the code has
 

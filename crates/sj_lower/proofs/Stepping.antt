@@ -1,57 +1,10 @@
 -- Statement by statement the cells of the program without phases agree with the job's roots, by their numbers.
-use Rattle.std.proofs.Common.{◌≡◌, ℕ, ◌+◌, Bool, true, false, cond, None, List, [], ◌∷◌, length, map as each_of, refl, sym, ap, subst, ◌∙◌, arith, get_or-set_same, get_or-set_other}
+use Rattle.sj_lower.proofs.Words.{[], access, Act, active_cells, ap, apply_at, area, AreLaid, arith, Bool, by_number, Cell, cell_of, change_at, child, closing, cond, Contents, contributed, deliver_row, Dims, direct, direct_mode, each_of, false, Fill, fill_row, get_or-set_other, get_or-set_same, HasTakenPlan, HaveCopies, Init, Invalidates, is_first, is_redux, is_valued, IsPlacedAt, IsSoundAt, Kernel, Laid, length, Line, List, Lives, load_row, load_rows, Lowered, Mode, no_root, no_values, None, Nothing, open_at, OpenReductions, Operand, operand_array_at, out, own_task, Parts, Paste, paste_arguments, paste_row, PasteKernel, pastes_of, places, plain_rows, plan_block, Plans, print_block, Prints, Program, R, Reduces, Reduction, refl, Registers, root_at, RootState, RW, same_parts, step_of, subst, sym, take, Tasks, true, Unregisters, Values, W, with_elements, with_handle, with_print, with_reduction, written_of, ℕ, ◌+◌, ◌∙◌, ◌∷◌, ◌≡◌}
 use Rattle.std.proofs.Math.ListN.{set}
-use Rattle.std.proofs.lemmas.Bool.{cond_both}
-use Rattle.std.proofs.lemmas.List.{length-set, length-replicate}
-use Rattle.std.proofs.lemmas.Simd.{map-map}
-use Rattle.sj_base.specs.declared.ids.Cell.{Cell}
-use Rattle.sj_base.specs.declared.ids.Line.{Line}
-use Rattle.sj_base.specs.declared.mode.Mode.{Mode}
-use Rattle.sj_base.specs.declared.mode.Mode.TheVariants.{R, W, RW}
-use Rattle.sj_base.specs.declared.mode.Reduction.{Reduction}
-use Rattle.sj_base.specs.declared.tile.Dims.{Dims}
-use Rattle.sj_base.specs.declared.program.Lowered.{Lowered}
-use Rattle.sj_base.specs.declared.program.Program.{Program}
-use Rattle.sj_base.specs.Array.{area}
-use Rattle.sj_base.specs.Mode.{is_redux, access}
-use Rattle.sj_base.proofs.Lists.{each-weaker}
-use Rattle.sj_base.proofs.Numbers.{none_more}
-use Rattle.sj_codelet.specs.declared.kernel.Kernel.{Kernel}
-use Rattle.sj_codelet.specs.declared.kernel.Kernel.TheVariants.{Paste as PasteKernel}
-use Rattle.sj_core.specs.Fold.{Contents}
-use Rattle.sj_plan.specs.declared.parts.Parts.{Parts}
-use Rattle.sj_plan.specs.declared.paste.Paste.{Paste}
-use Rattle.sj_plan.specs.Parts.{places}
-use Rattle.sj_plan.specs.Paste.{is_first, pastes_of}
-use Rattle.sj_plan.specs.Rect.{child}
-use Rattle.sj_meaning.specs.declared.job.Init.{Init}
-use Rattle.sj_meaning.specs.declared.job.Init.TheVariants.{Values, Fill, Nothing}
-use Rattle.sj_meaning.specs.Statement.{Operand}
-use Rattle.sj_meaning.specs.Act.{Act, Register as Registers, Plan as Plans, Redux as Reduces, Task as Tasks, Print as Prints, Invalidate as Invalidates, Unregister as Unregisters}
-use Rattle.sj_meaning.specs.State.{RootState, is_valued}
-use Rattle.sj_meaning.specs.Meaning.{with_reduction, with_elements, no_values, written_of}
-use Rattle.sj_meaning.specs.Numbers.{no_root, root_at, change_at, apply_at, operand_array_at}
+use Rattle.std.proofs.lemmas.{Bool.cond_both, List.length-replicate, List.length-set, Simd.map-map}
+use Rattle.sj_base.proofs.{Lists.each-weaker, Numbers.none_more}
 use Rattle.sj_meaning.proofs.Timely.{length-put}
-use Rattle.sj_codelet.specs.Kernel.{out}
-use Rattle.sj_phases.specs.Plain.{OpenReductions, direct_mode, direct, plain_rows, open_at}
-use Rattle.sj_phases.specs.Rows.{own_task}
-use Rattle.sj_lower.specs.Cells.{same_parts}
-use Rattle.sj_lower.specs.Laid.{Laid, cell_of, take, with_handle, with_print}
-use Rattle.sj_lower.specs.Rows.{load_row, fill_row, paste_arguments, paste_row, deliver_row, load_rows}
-use Rattle.sj_lower.specs.SoundAt.{Lives, IsPlacedAt, IsSoundAt}
-use Rattle.sj_lower.specs.Step.{by_number, active_cells, closing, plan_block, print_block, contributed, step_of}
-use Rattle.sj_lower.specs.Whole.{HasTakenPlan, AreLaid, HaveCopies}
-use Rattle.sj_lower.proofs.Agrees.{Agrees, AreOpenChildren}
-use Rattle.sj_lower.proofs.Contents.{contents_before}
-use Rattle.sj_lower.proofs.Contributing.{fold-handles, laid-contributed, of_redux, roots-copied, roots-task}
-use Rattle.sj_lower.proofs.Copying.{copies-as}
-use Rattle.sj_lower.proofs.Doing.{the_cell}
-use Rattle.sj_lower.proofs.Elements.{blank-child, no_values-blank}
-use Rattle.sj_lower.proofs.Filling.{after_delivers}
-use Rattle.sj_lower.proofs.Folding.{Stand, after_rows, contents-rows}
-use Rattle.sj_lower.proofs.Keeping.{HasRoot, HaveRoots, HasCells, holds-changed, holds-later, lives-below, changed-here, changed-beside}
-use Rattle.sj_lower.proofs.Starting.{planned_rows, keeps-registered, keeps-planned}
-use Rattle.sj_lower.proofs.Taken.{laid-as, taken-as}
+use Rattle.sj_lower.proofs.{Agrees.Agrees, Agrees.AreOpenChildren, Contents.contents_before, Contributing.fold-handles, Contributing.laid-contributed, Contributing.of_redux, Contributing.roots-copied, Contributing.roots-task, Copying.copies-as, Doing.the_cell, Elements.blank-child, Elements.no_values-blank, Filling.after_delivers, Folding.after_rows, Folding.contents-rows, Folding.Stand, Keeping.changed-beside, Keeping.changed-here, Keeping.HasCells, Keeping.HasRoot, Keeping.HaveRoots, Keeping.holds-changed, Keeping.holds-later, Keeping.lives-below, Starting.keeps-planned, Starting.keeps-registered, Starting.planned_rows, Taken.laid-as, Taken.taken-as}
 pub use Rattle.sj_lower.proofs.Starting.{Keeps}
 
 -- ---- the tasks that no task line names are what they are without phases

@@ -1,30 +1,10 @@
 -- Each child of each plan that a root has taken has a cell of its own.
-use Rattle.std.proofs.Common.{◌≡◌, ℕ, zero, suc, ◌+◌, ◌-◌, ◌*◌, ◌^◌, ◌<◌, ◌≤◌, ◌&&◌, cond, Option, Some, None, List, [], ◌∷◌, ◌++◌, length, get_or, unwrap_or, map as each_of, refl, sym, ap, subst, ◌∙◌, inl, inr, arith, length-append, get_or-set_same, get_or-set_other}
-use Rattle.std.specs.Prelude.{nat_eq}
-use Rattle.std.specs.List.{All}
-use Rattle.std.specs.Option.{is_some}
+use Rattle.sj_lower.proofs.Words.{[], a_root, All, ap, area, AreLaid, arith, Cell, cell_of, CellInfo, child, child_cell, cond, Dims, each_of, Fits, get_or, get_or-set_other, get_or-set_same, Handle, handle_at, handle_of, HasTakenPlan, inl, inr, is_some, IsPlace, Laid, length, length-append, List, nat_eq, no_cell, no_cells, None, number, Option, Parts, places, rect_dims, refl, same_parts, Some, subst, suc, sym, take, unwrap_or, with_handle, with_new_plan, zero, ℕ, ◌&&◌, ◌*◌, ◌++◌, ◌+◌, ◌-◌, ◌<◌, ◌^◌, ◌∙◌, ◌∷◌, ◌≡◌, ◌≤◌}
 use Rattle.std.proofs.Math.Seq.{get_or-append_seam}
-use Rattle.std.proofs.lemmas.Bool.{and_parts, cases_eq, cases_lt, cond_both, eq-eqb, eqb-true, ne_eqb}
-use Rattle.std.proofs.lemmas.List.{get_or_append_left, get_or-append-add, get_or-append_right, get_or_past, length-set}
-use Rattle.std.proofs.lemmas.List.Elements.{All-append, All-from_recursion}
-use Rattle.std.proofs.lemmas.Nat.{mul-le}
-use Rattle.sj_base.specs.declared.ids.Cell.{Cell}
-use Rattle.sj_base.specs.declared.tile.Dims.{Dims}
-use Rattle.sj_base.specs.declared.program.CellInfo.{CellInfo}
-use Rattle.sj_base.specs.Array.{area}
-use Rattle.sj_core.specs.Program.{no_cell}
-use Rattle.sj_plan.specs.declared.parts.Parts.{Parts}
-use Rattle.sj_plan.specs.Parts.{Fits, IsPlace, places, number}
-use Rattle.sj_plan.specs.Rect.{child, rect_dims}
-use Rattle.sj_plan.proofs.Lists.{each-map, each-places}
-use Rattle.sj_plan.proofs.Places.{number-apart}
-use Rattle.sj_plan.proofs.Splitting.{part_end}
-use Rattle.sj_meaning.specs.Table.{a_root}
-use Rattle.sj_lower.specs.Cells.{same_parts, child_cell}
-use Rattle.sj_lower.specs.Laid.{Laid, Handle, handle_of, handle_at, cell_of, with_new_plan, take, with_handle, no_cells}
-use Rattle.sj_lower.specs.Whole.{HasTakenPlan, AreLaid}
+use Rattle.std.proofs.lemmas.{Bool.and_parts, Bool.cases_eq, Bool.cases_lt, Bool.cond_both, Bool.eq-eqb, Bool.eqb-true, Bool.ne_eqb, List.Elements.All-append, List.Elements.All-from_recursion, List.get_or-append-add, List.get_or-append_right, List.get_or_append_left, List.get_or_past, List.length-set, Nat.mul-le}
+use Rattle.sj_plan.proofs.{Lists.each-map, Lists.each-places, Places.number-apart, Splitting.part_end}
+use Rattle.sj_lower.proofs.Places.{length-places, number-below, parts-are, parts-itself, places-at}
 pub use Rattle.std.proofs.lemmas.Option.{same_Some as some_is, none-some as none_isn't}
-use Rattle.sj_lower.proofs.Places.{parts-are, parts-itself, number-below, length-places, places-at}
 
 -- where a root has the handle of another, it has taken its plans
 pub taken-as : (C D : Laid) (n m : ℕ) (d : Dims) (s : Parts) (f : ℕ) → handle_at D m ≡ handle_at C n → HasTakenPlan C n d s f → HasTakenPlan D m d s f

@@ -1,58 +1,12 @@
 -- What a task line does, by what the code's calls gave.
-use Rattle.std.proofs.Common.{◌≡◌, ℕ, ◌+◌, ◌<◌, ◌≤◌, Bool, true, false, not, ◌||◌, Option, Some, None, IfSome, IfNone, List, [], ◌∷◌, ◌++◌, length, map, fold, get_or, refl, sym, ap, subst, ◌∙◌, arith}
-use Rattle.std.specs.Prelude.{All, unwrap_or}
-use Rattle.std.specs.List.{AllByRecursion, filter, flat_map}
-use Rattle.std.proofs.lemmas.Bool.{false≢true, and_parts}
-use Rattle.std.proofs.lemmas.List.Elements.{All-from_recursion, recursion_from_All}
-use Rattle.std.proofs.lemmas.List.Sums.{AllPass-from_list_all}
-use Rattle.std.proofs.lemmas.Simd.{map-map}
-use Rattle.sj_base.specs.declared.ids.Cell.{Cell}
-use Rattle.sj_base.specs.declared.ids.Line.{Line}
-use Rattle.sj_base.specs.declared.mode.Mode.{Mode}
-use Rattle.sj_base.specs.declared.mode.Access.{Access}
-use Rattle.sj_base.specs.declared.mode.Reduction.{Reduction}
-use Rattle.sj_base.specs.declared.program.Codelet.{Codelet}
-use Rattle.sj_base.specs.declared.program.Lowered.{Lowered}
-use Rattle.sj_base.specs.Mode.{is_redux, is_commute}
-use Rattle.sj_base.proofs.Bools.{implied}
-use Rattle.sj_base.proofs.Lists.{each-weaker}
-use Rattle.sj_base.proofs.Options.{IfSome-at}
-use Rattle.sj_codelet.specs.declared.kernel.Kernel.{Kernel}
-use Rattle.sj_codelet.specs.Kernel.{commutes_in, out}
-use Rattle.sj_plan.specs.declared.parts.Parts.{Parts}
-use Rattle.sj_plan.proofs.Lists.{each-filter, each-from_map, map-filter}
+use Rattle.sj_lower.proofs.Words.{[], Access, access_by, access_of, active_at, All, AllByRecursion, ap, AreLaidFor, arith, Bool, by_number, CanOpen, Cell, cell_by, cell_of, cells_from, closed, Codelet, commutes_in, Does, expanded, Expander, Expansion, false, filter, first_copy_in, flat_map, fold, Follows, get_or, Goes, handle_of, has_value, HasAt, HasNext, HaveCopies, IfNone, IfSome, is_commute, is_contributed, is_lawful_for, is_other, is_other_access, is_redux, is_valued_child, IsActiveChild, IsFull, IsFullFor, IsPlacedAt, IsSoundTaskAt, KeptTask, Kernel, Laid, Layout, Lays, length, Line, List, Lives, Lowered, lowered_task, map, MayComeNext, Mode, most, None, not, opened, opening_for, OpensPhase, Operand, operand_array_at, operand_at, operand_cell, Option, out, OutOfMemory, Parts, PhaseOpening, Reduction, refl, root_at, RootState, run_task_at, Some, StepRefusal, Steps, StepsAt, subst, sym, Table, task_at, task_row, TaskBlock, TaskLine, TooManyCells, true, unwrap_or, with_copies, with_own, written_of, ℕ, ◌++◌, ◌+◌, ◌<◌, ◌||◌, ◌∙◌, ◌∷◌, ◌≡◌, ◌≤◌}
 use Rattle.sj_meaning.specs.declared.job.Operand.{Operand as Kept}
-use Rattle.sj_meaning.specs.declared.job.TaskLine.{TaskLine as KeptTask}
-use Rattle.sj_meaning.specs.declared.job.Act.TheVariants as kept
-use Rattle.sj_meaning.specs.Statement.{Operand, TaskLine}
-use Rattle.sj_meaning.specs.State.{RootState, is_valued_child}
-use Rattle.sj_meaning.specs.Meaning.{written_of}
-use Rattle.sj_meaning.specs.Numbers.{root_at, operand_at, operand_array_at, task_at, run_task_at}
-use Rattle.sj_meaning.specs.Sound.{is_lawful_for}
-use Rattle.sj_meaning.specs.Table.{Table}
-use Rattle.sj_phases.specs.declared.expander.Expander.{Expander}
-use Rattle.sj_phases.specs.declared.phase.PhaseOpening.{PhaseOpening}
-use Rattle.sj_phases.specs.Block.{TaskBlock}
-use Rattle.sj_phases.specs.Does.{HasAt, Does}
-use Rattle.sj_phases.specs.Expand.{Expansion, closed, opened, expanded, with_own, most}
+use Rattle.std.proofs.lemmas.{Bool.and_parts, Bool.false≢true, List.Elements.All-from_recursion, List.Elements.recursion_from_All, List.Sums.AllPass-from_list_all, Simd.map-map}
+use Rattle.sj_base.proofs.{Bools.implied, Lists.each-weaker, Options.IfSome-at}
+use Rattle.sj_plan.proofs.Lists.{each-filter, each-from_map, map-filter}
 use Rattle.sj_phases.proofs.Doing.{has-after}
-use Rattle.sj_lower.specs.declared.contributions.StepRefusal.{StepRefusal}
-use Rattle.sj_lower.specs.declared.contributions.StepRefusal.TheVariants.{TooManyCells, OutOfMemory}
-use Rattle.sj_lower.specs.declared.layout.Layout.{Layout}
-use Rattle.sj_lower.specs.declared.steps.Steps.{Steps}
-use Rattle.sj_lower.specs.Adds.{is_contributed, CanOpen, OpensPhase, IsFullFor, lowered_task, StepsAt, MayComeNext, HasNext, Goes, IsFull}
-use Rattle.sj_lower.specs.Cells.{cells_from}
-use Rattle.sj_lower.specs.Follows.{Lays, Follows, IsActiveChild, active_at, cell_by, access_by, is_other}
-use Rattle.sj_lower.specs.Laid.{Laid, handle_of, cell_of, first_copy_in, with_copies}
-use Rattle.sj_lower.specs.SoundAt.{Lives, has_value, IsPlacedAt, IsSoundTaskAt}
-use Rattle.sj_lower.specs.Step.{by_number, operand_cell, is_other_access, opening_for, access_of, task_row}
-use Rattle.sj_lower.specs.Whole.{AreLaidFor, HaveCopies}
-use Rattle.sj_lower.proofs.Arms.{does-block, does-task, goes-kept, keeps-put, kept-of}
-use Rattle.sj_lower.proofs.Copying.{IsNoCopy, by_copies, copies-copied, copied-first, first-old, copies-prints}
-use Rattle.sj_lower.proofs.Finding.{contributed-at, only-one, value-of}
-use Rattle.sj_lower.proofs.Laying.{none-at, follows-kept, cell-same, is-inside}
-use Rattle.sj_lower.proofs.Speaking.{map-same}
-use Rattle.sj_lower.proofs.Taken.{none_isn't, some_is, cell-is, cell-inside}
+use Rattle.sj_lower.proofs.{Arms.does-block, Arms.does-task, Arms.goes-kept, Arms.keeps-put, Arms.kept-of, Copying.by_copies, Copying.copied-first, Copying.copies-copied, Copying.copies-prints, Copying.first-old, Copying.IsNoCopy, Finding.contributed-at, Finding.only-one, Finding.value-of, Laying.cell-same, Laying.follows-kept, Laying.is-inside, Laying.none-at, Speaking.map-same, Taken.cell-inside, Taken.cell-is, Taken.none_isn't, Taken.some_is}
+use Rattle.sj_meaning.specs.declared.job.Act.TheVariants as kept
 
 -- ---- the first that passes
 

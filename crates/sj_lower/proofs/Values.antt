@@ -1,17 +1,7 @@
 -- Which values an act finds, by names and by numbers.
-use Rattle.std.proofs.Common.{◌≡◌, ℕ, Bool, false, ◌&&◌, List, [], ◌∷◌, map, refl}
-use Rattle.sj_base.specs.Mode.{is_redux}
-use Rattle.sj_meaning.specs.Act.{Act, Statement, Plan as Plans, Task as Tasks}
-use Rattle.sj_meaning.specs.State.{RootState, JobState, is_valued, is_valued_child}
-use Rattle.sj_meaning.specs.Meaning.{apply}
-use Rattle.sj_meaning.specs.Numbers.{name_at, act_named_by, statement_named_by, apply_at}
-use Rattle.sj_meaning.specs.Sound.{has_child_values}
-use Rattle.sj_meaning.specs.Table.{AreDistinct}
-use Rattle.sj_meaning.specs.View.{finds_value, values_from}
-use Rattle.sj_meaning.proofs.Mirroring.{IsMirror, IsTimely, AreTimely, mirror-apply}
-use Rattle.sj_lower.specs.Adds.{finds_at}
-use Rattle.sj_lower.specs.SoundAt.{has_value}
-use Rattle.sj_lower.proofs.Sounding.{looked, any-at}
+use Rattle.sj_lower.proofs.Words.{[], Act, act_named_by, apply, apply_at, AreDistinct, Bool, false, finds_at, finds_value, has_child_values, has_value, is_redux, is_valued, is_valued_child, JobState, List, map, name_at, Plans, refl, RootState, Statement, statement_named_by, Tasks, values_from, ℕ, ◌&&◌, ◌∷◌, ◌≡◌}
+use Rattle.sj_meaning.proofs.Mirroring.{AreTimely, IsMirror, IsTimely, mirror-apply}
+use Rattle.sj_lower.proofs.Sounding.{any-at, looked}
 
 module _ (names : List (List ℕ)) (d : AreDistinct names) (S : JobState) (rs : List RootState) (m : IsMirror names S rs) where
   finds-same : (a : Act ℕ) → IsTimely names S rs a → finds_value S (act_named_by (name_at names) a) ≡ finds_at rs a

@@ -1,24 +1,7 @@
 -- What a task writes: which operands get new arrays, and with which dimensions.
-use Rattle.std.proofs.Common.{◌≡◌, ℕ, Bool, true, false, ◌&&◌, cond, ℤ, Option, Some, None, List, [], ◌∷◌, map, length, refl, sym, ap, subst, ◌∙◌, arith}
-use Rattle.std.specs.Prelude.{nat_eq}
-use Rattle.std.specs.List.{filter}
-use Rattle.std.proofs.lemmas.Bool.{and_parts}
-use Rattle.std.proofs.lemmas.Bool.Decides.{Decides-eqb}
-use Rattle.std.proofs.lemmas.List.{length-map}
-use Rattle.sj_base.specs.declared.tile.Dims.{Dims}
-use Rattle.sj_base.specs.declared.program.Codelet.{Codelet}
-use Rattle.sj_base.specs.Array.{Array}
-use Rattle.sj_base.specs.Mode.{is_written}
-use Rattle.sj_codelet.specs.declared.kernel.Kernel.{Kernel}
-use Rattle.sj_codelet.specs.declared.formal.Formal.{Formal}
-use Rattle.sj_codelet.specs.Kernel.{kernel_of, formals_of, arguments_fit, dims_fit, fits, fits_in, new_arrays, out}
-use Rattle.sj_codelet.specs.Formal.{outputs_among}
-use Rattle.sj_codelet.specs.Runs.{formals_in}
-use Rattle.sj_codelet.proofs.NewArrays.{new_arrays-whole}
-use Rattle.sj_codelet.proofs.Table.{new_arrays-dims}
-use Rattle.sj_meaning.specs.Statement.{Operand}
-use Rattle.sj_meaning.specs.Sound.{mode_fits}
-use Rattle.sj_lower.specs.SoundAt.{modes_fit_at}
+use Rattle.sj_lower.proofs.Words.{[], ap, arguments_fit, arith, Array, Bool, Codelet, cond, Dims, dims_fit, false, filter, fits, fits_in, Formal, formals_in, formals_of, is_written, Kernel, kernel_of, length, List, map, mode_fits, modes_fit_at, nat_eq, new_arrays, None, Operand, Option, out, outputs_among, refl, Some, subst, sym, true, ℕ, ℤ, ◌&&◌, ◌∙◌, ◌∷◌, ◌≡◌}
+use Rattle.std.proofs.lemmas.{Bool.and_parts, Bool.Decides.Decides-eqb, List.length-map}
+use Rattle.sj_codelet.proofs.{NewArrays.new_arrays-whole, Table.new_arrays-dims}
 pub use Rattle.sj_codelet.proofs.NewArrays.{AreWhole}
 pub use Rattle.sj_codelet.proofs.Table.{each_dims as all_dims}
 pub use Rattle.sj_meaning.proofs.Giving.{written_as as writes_output}

@@ -1,39 +1,9 @@
 -- What a contribution adds to a partial copy, the cell denotes more.
-use Rattle.std.proofs.Common.{◌≡◌, ℕ, zero, suc, ◌+◌, ◌<◌, true, Some, List, [], ◌∷◌, refl, sym, ap, subst, ◌∙◌, arith, length}
-use Rattle.std.specs.Prelude.{Contains, nat_eq}
-use Rattle.std.specs.List.{range_with_len}
-use Rattle.std.proofs.lemmas.Bool.Decides.{Decides-eqb}
-use Rattle.std.proofs.lemmas.List.Elements.{All-nil, All-cons}
-use Rattle.std.proofs.lemmas.Bool.{and_from}
-use Rattle.sj_base.specs.declared.ids.Cell.{Cell}
-use Rattle.sj_base.specs.declared.mode.Access.{Access}
-use Rattle.sj_base.specs.declared.mode.Mode.TheVariants.{Redux}
-use Rattle.sj_base.specs.declared.mode.Reduction.{Reduction}
-use Rattle.sj_base.specs.declared.mode.Reduction.TheVariants.{Plus, Least}
-use Rattle.sj_base.specs.declared.program.Program.{Program}
-use Rattle.sj_base.specs.declared.tile.Dims.{Dims}
-use Rattle.sj_base.specs.Array.{Array}
-use Rattle.sj_base.specs.Ids.{task}
-use Rattle.sj_codelet.specs.declared.kernel.Kernel.{Kernel}
-use Rattle.sj_codelet.specs.Kernel.{kernel_of, contributes_of, combine_of, init_of, same, fits, out}
-use Rattle.sj_codelet.specs.Laws.{IsTile, IsCall, IsReduction, combined, result_of}
+use Rattle.sj_phases.proofs.Words.{[], Access, after_task, ap, arith, Array, Cell, cell_info, combine_of, combined, Contains, Contents, contributes_of, copy_at, Dims, dims_of, fits, held_in, init_of, IsCall, IsReduction, IsTile, Kernel, kernel_of, Least, length, List, nat_eq, OpenPhase, out, Phase, Plus, Program, range_with_len, Reduction, Redux, refl, result_of, same, Some, subst, suc, sym, task, task_of, true, worked_on, zero, ℕ, ◌+◌, ◌<◌, ◌∙◌, ◌∷◌, ◌≡◌}
+use Rattle.std.proofs.lemmas.{Bool.and_from, Bool.Decides.Decides-eqb, List.Elements.All-cons, List.Elements.All-nil}
 use Rattle.sj_codelet.proofs.NewArrays.{out-makes_tiles}
-use Rattle.sj_core.specs.Program.{dims_of, cell_info, task_of}
-use Rattle.sj_core.specs.Proper.{Phase}
-use Rattle.sj_core.specs.Fold.{Contents, held_in, after_task}
-use Rattle.sj_core.specs.Operands.{worked_on}
-use Rattle.sj_core.proofs.Adding.{adds, part, part-fills, update}
-use Rattle.sj_core.proofs.Combining.{call-with, combined-swap, combines, result-fills}
-use Rattle.sj_core.proofs.Phases.{Contributes, contributes, reduces, kernel-contributes, does_contribute}
-use Rattle.sj_core.proofs.Sized.{AreSized, Fills, after_chosen-sized, worked_on-dims}
-use Rattle.sj_core.proofs.Swapping.{Updates, first_ins, update-call, update-spares}
-use Rattle.sj_core.proofs.Updating.{one_reduction}
-use Rattle.sj_phases.specs.declared.phase.OpenPhase.{OpenPhase}
-use Rattle.sj_phases.specs.Rows.{copy_at}
-use Rattle.sj_phases.proofs.Combined.{IsTrusted, with_copy, with_all, with_all-same, all_workers}
-use Rattle.sj_phases.proofs.Contents.{first_worker, contents_before}
-use Rattle.sj_phases.proofs.Lists.{in-range, first-has, more-has}
-use Rattle.sj_phases.proofs.Owning.{copy-is}
+use Rattle.sj_core.proofs.{Adding.adds, Adding.part, Adding.part-fills, Adding.update, Combining.call-with, Combining.combined-swap, Combining.combines, Combining.result-fills, Phases.Contributes, Phases.contributes, Phases.does_contribute, Phases.kernel-contributes, Phases.reduces, Sized.after_chosen-sized, Sized.AreSized, Sized.Fills, Sized.worked_on-dims, Swapping.first_ins, Swapping.update-call, Swapping.update-spares, Swapping.Updates, Updating.one_reduction}
+use Rattle.sj_phases.proofs.{Combined.all_workers, Combined.IsTrusted, Combined.with_all, Combined.with_all-same, Combined.with_copy, Contents.contents_before, Contents.first_worker, Lists.first-has, Lists.in-range, Lists.more-has, Owning.copy-is}
 
 -- ---- arrays that are combined
 

@@ -1,27 +1,9 @@
 -- The log of phases where a phase begins.
-use Rattle.std.proofs.Common.{◌≡◌, ℕ, ◌+◌, ◌-◌, ◌<◌, ◌≤◌, Bool, true, false, cond, Some, None, List, [], ◌∷◌, length, refl, sym, ap, subst, ◌∙◌, inl, inr, arith, length-append}
-use Rattle.std.specs.Prelude.{Contains}
-use Rattle.std.proofs.lemmas.Bool.{false≢true, cases_lt}
-use Rattle.std.proofs.lemmas.List.FromFn.{length-map-range_with_len}
-use Rattle.sj_base.specs.declared.ids.Cell.{Cell}
-use Rattle.sj_base.specs.declared.ids.Line.{Line}
-use Rattle.sj_base.specs.declared.mode.Mode.TheVariants.{W, Redux}
-use Rattle.sj_base.specs.declared.mode.Access.{Access}
-use Rattle.sj_base.specs.declared.program.Lowered.{Lowered}
-use Rattle.sj_base.specs.declared.program.Program.{Program}
-use Rattle.sj_codelet.specs.Kernel.{kernel_of, init_of}
+use Rattle.sj_phases.proofs.Words.{[], Access, access, ap, arith, begin_rows, Bool, Cell, cond, Contains, copy_at, false, first_units, init_of, init_row, init_rows, inl, inr, IsInit, IsPlain, kernel_of, length, length-append, Line, List, Lowered, names_as, None, OpenPhase, phase_at, PhaseOpening, Program, Redux, refl, Some, subst, sym, task_number, true, W, with_phase, ℕ, ◌+◌, ◌-◌, ◌<◌, ◌∙◌, ◌∷◌, ◌≡◌, ◌≤◌}
+use Rattle.std.proofs.lemmas.{Bool.cases_lt, Bool.false≢true, List.FromFn.length-map-range_with_len}
 use Rattle.sj_codelet.proofs.Table.{kernel_of-codelet_of}
-use Rattle.sj_core.specs.Proper.{IsPlain, IsInit, names_as, task_number, access}
-use Rattle.sj_phases.specs.declared.phase.PhaseOpening.{PhaseOpening}
-use Rattle.sj_phases.specs.declared.phase.OpenPhase.{OpenPhase}
-use Rattle.sj_phases.specs.Rows.{copy_at, init_row, init_rows}
-use Rattle.sj_phases.specs.Expand.{with_phase, begin_rows, first_units, phase_at}
-use Rattle.sj_phases.proofs.Combined.{Phases}
-use Rattle.sj_phases.proofs.Folding.{Stand, stand-append}
-use Rattle.sj_phases.proofs.Lists.{one-case}
-use Rattle.sj_phases.proofs.Logging.{IsLogged, CopyInit, CellInit, IsToCome, InOpen, IsInner, Logged, some_is, none_isn't, row-at, row-of, log-turned}
+use Rattle.sj_phases.proofs.{Combined.Phases, Folding.Stand, Folding.stand-append, Lists.one-case, Logging.CellInit, Logging.CopyInit, Logging.InOpen, Logging.IsInner, Logging.IsLogged, Logging.IsToCome, Logging.log-turned, Logging.Logged, Logging.none_isn't, Logging.row-at, Logging.row-of, Logging.some_is, Owning.IsOwn}
 pub use Rattle.sj_phases.proofs.Logging.{AreApart}
-use Rattle.sj_phases.proofs.Owning.{IsOwn}
 
 -- ---- the tasks that begin a phase
 

@@ -1,40 +1,8 @@
 -- The program of blocks and that without phases, block by block.
-use Rattle.std.proofs.Common.{◌≡◌, ℕ, zero, suc, ◌+◌, ◌<◌, true, Some, None, List, [], ◌∷◌, ◌++◌, length, get_or, map, fold, refl, sym, ap, subst, ◌∙◌, inl, inr, arith, append_assoc}
-use Rattle.std.specs.Prelude.{Contains}
-use Rattle.std.specs.List.{flat_map}
-use Rattle.std.proofs.lemmas.List.Folds.{fold_along}
-use Rattle.std.proofs.lemmas.List.{append-nil, map-append}
-use Rattle.std.proofs.lemmas.List.Elements.{All-contains}
-use Rattle.sj_base.specs.declared.ids.Cell.{Cell}
-use Rattle.sj_base.specs.declared.ids.Line.{Line}
-use Rattle.sj_base.specs.declared.mode.Mode.TheVariants.{Redux}
-use Rattle.sj_base.specs.declared.mode.Access.{Access}
-use Rattle.sj_base.specs.declared.mode.Reduction.{Reduction}
-use Rattle.sj_base.specs.declared.program.CellInfo.{CellInfo}
-use Rattle.sj_base.specs.declared.program.Lowered.{Lowered}
-use Rattle.sj_base.specs.declared.program.Program.{Program}
-use Rattle.sj_base.specs.Array.{zeros}
-use Rattle.sj_base.specs.Mode.{is_redux}
+use Rattle.sj_phases.proofs.Words.{[], Access, access, ap, append_assoc, AreOpenings, AreOrderly, arith, begin_rows, Cell, CellInfo, closed, combine_rows, Contains, Contributes, direct, expand, expanded, Expansion, first_units, flat_map, fold, get_or, inl, inr, is_redux, IsOrderly, IsOrderlyOpening, IsOrderlyTask, IsPlain, IsReduction, kernel_of, length, Line, List, Lowered, map, names_as, None, none_open, open_after, open_at, opened, OpenPhase, OpenReductions, out, phase_turned, PhaseOpening, plain_next, plain_rows, Plainly, prepared, Program, Proper, Reduction, Redux, refl, shut_by, Some, subst, suc, sym, task, task_of, TaskBlock, true, units, with_opening, with_shut, zero, zeros, ℕ, ◌++◌, ◌+◌, ◌<◌, ◌∙◌, ◌∷◌, ◌≡◌}
+use Rattle.std.proofs.lemmas.{List.append-nil, List.Elements.All-contains, List.Folds.fold_along, List.map-append}
 use Rattle.sj_base.proofs.Numbers.{none_more, one_more}
-use Rattle.sj_codelet.specs.Kernel.{kernel_of, out}
-use Rattle.sj_codelet.specs.Laws.{IsReduction}
-use Rattle.sj_core.specs.Program.{task_of}
-use Rattle.sj_core.specs.Proper.{Proper, IsPlain, names_as, access}
-use Rattle.sj_phases.specs.declared.phase.PhaseOpening.{PhaseOpening}
-use Rattle.sj_phases.specs.declared.phase.OpenPhase.{OpenPhase}
-use Rattle.sj_phases.specs.Block.{TaskBlock}
-use Rattle.sj_phases.specs.Rows.{combine_rows}
-use Rattle.sj_phases.specs.Expand.{Expansion, phase_turned, closed, opened, begin_rows, first_units, prepared, expanded, expand}
-use Rattle.sj_phases.specs.Plain.{OpenReductions, Plainly, direct, units, plain_rows, plain_next, with_shut, with_opening, shut_by, open_at, open_after, none_open}
-use Rattle.sj_phases.specs.Orderly.{Contributes, IsOrderlyTask, IsOrderlyOpening, AreOpenings, IsOrderly, AreOrderly}
-use Rattle.sj_phases.proofs.Adding.{law}
-use Rattle.sj_phases.proofs.Combined.{IsTrusted, Phases}
-use Rattle.sj_base.specs.Ids.{task}
-use Rattle.sj_phases.proofs.Fine.{Begins, Fine, begins-stand, fine-close, fine-open, fine-own}
-use Rattle.sj_phases.proofs.Folding.{Stand}
-use Rattle.sj_phases.proofs.Good.{AreTwins, twin-dims, twin-info, twin-plain}
-use Rattle.sj_phases.proofs.Lists.{by_option, fold_keeps, cons-cases, none-has, first-has, more-has}
-use Rattle.sj_phases.proofs.Logging.{logged-none, log-come, none_isn't, some_is, phase-own, phase-other, by_which}
+use Rattle.sj_phases.proofs.{Adding.law, Combined.IsTrusted, Combined.Phases, Fine.Begins, Fine.begins-stand, Fine.Fine, Fine.fine-close, Fine.fine-open, Fine.fine-own, Folding.Stand, Good.AreTwins, Good.twin-dims, Good.twin-info, Good.twin-plain, Lists.by_option, Lists.cons-cases, Lists.first-has, Lists.fold_keeps, Lists.more-has, Lists.none-has, Logging.by_which, Logging.log-come, Logging.logged-none, Logging.none_isn't, Logging.phase-other, Logging.phase-own, Logging.some_is}
 
 -- ---- tasks are only added
 

@@ -1,29 +1,9 @@
 -- The log of phases where a phase is closed.
-use Rattle.std.proofs.Common.{◌≡◌, ℕ, ◌+◌, ◌-◌, ◌<◌, ◌≤◌, Bool, not, Some, None, [], ◌∷◌, refl, sym, ap, subst, subst₂, ◌∙◌, inl, inr, arith}
-use Rattle.std.specs.Prelude.{All, Contains, filter}
-use Rattle.std.specs.List.{range_with_len}
-use Rattle.std.proofs.lemmas.Bool.{cases_lt}
-use Rattle.std.proofs.lemmas.List.FromFn.{get_or-range_with_len, length-range_with_len}
-use Rattle.std.proofs.lemmas.List.Elements.{All-cons}
-use Rattle.sj_base.specs.declared.ids.Cell.{Cell}
-use Rattle.sj_base.specs.declared.mode.Mode.TheVariants.{R, RW, Redux}
-use Rattle.sj_base.specs.declared.mode.Access.{Access}
-use Rattle.sj_base.specs.declared.program.Lowered.{Lowered}
-use Rattle.sj_base.specs.declared.program.Program.{Program}
-use Rattle.sj_base.specs.Mode.{is_scratch}
-use Rattle.sj_codelet.specs.Kernel.{combine_of}
+use Rattle.sj_phases.proofs.Words.{[], Access, access, All, ap, arith, Bool, Cell, combine_of, combine_row, combine_rows, Contains, copy_at, copy_of, filter, inl, inr, is_scratch, IsCombine, IsContribution, IsInit, IsPhase, IsPlain, Lowered, names_as, None, not, OpenPhase, Phase, Program, R, range_with_len, Redux, refl, RW, Some, subst, subst₂, sym, task_number, with_phase, ℕ, ◌+◌, ◌-◌, ◌<◌, ◌∙◌, ◌∷◌, ◌≡◌, ◌≤◌}
+use Rattle.std.proofs.lemmas.{Bool.cases_lt, List.Elements.All-cons, List.FromFn.get_or-range_with_len, List.FromFn.length-range_with_len}
 use Rattle.sj_codelet.proofs.Table.{kernel_of-codelet_of}
-use Rattle.sj_core.specs.Operands.{copy_of}
-use Rattle.sj_core.specs.Proper.{IsPlain, Phase, IsPhase, IsInit, IsCombine, IsContribution, names_as, task_number, access}
-use Rattle.sj_core.proofs.Readiness.{filter-Contains, Contains-from_filter, Contains-filter}
-use Rattle.sj_phases.specs.declared.phase.OpenPhase.{OpenPhase}
-use Rattle.sj_phases.specs.Rows.{copy_at, combine_row, combine_rows}
-use Rattle.sj_phases.specs.Expand.{with_phase}
-use Rattle.sj_phases.proofs.Combined.{Phases}
-use Rattle.sj_phases.proofs.Folding.{Stand}
-use Rattle.sj_phases.proofs.Lists.{two-cases, more-has, first-has, in-range, range-has, all-range, all-from}
-use Rattle.sj_phases.proofs.Logging.{AreApart, IsLogged, CopyInit, Gift, CellInit, InClosed, IsInner, Logged, gives_to, gives-names, names-gives, none_isn't, row-at, row-of, used-now, log-turned}
-use Rattle.sj_phases.proofs.Owning.{IsOwn, copy-is}
+use Rattle.sj_core.proofs.Readiness.{Contains-filter, Contains-from_filter, filter-Contains}
+use Rattle.sj_phases.proofs.{Combined.Phases, Folding.Stand, Lists.all-from, Lists.all-range, Lists.first-has, Lists.in-range, Lists.more-has, Lists.range-has, Lists.two-cases, Logging.AreApart, Logging.CellInit, Logging.CopyInit, Logging.Gift, Logging.gives-names, Logging.gives_to, Logging.InClosed, Logging.IsInner, Logging.IsLogged, Logging.log-turned, Logging.Logged, Logging.names-gives, Logging.none_isn't, Logging.row-at, Logging.row-of, Logging.used-now, Owning.copy-is, Owning.IsOwn}
 
 module _ (p : Program) (n : ℕ) (phases : Phases) (c : Cell) (f : OpenPhase) (is : phases c ≡ Some f) (stand : Stand p n (combine_rows f c p.workers)) (own : IsOwn p c f.copies) (apart : AreApart p)
     (others : (d : Cell) (g : OpenPhase) → phases d ≡ Some g → IsPlain p d) (log : Logged p n phases []) where

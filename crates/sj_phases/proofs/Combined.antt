@@ -1,19 +1,6 @@
 -- What a cell holds once the phase that is open on it is closed.
-use Rattle.std.proofs.Common.{◌≡◌, ℕ, ◌<◌, Bool, Option, Some, None, List, [], ◌∷◌, refl, sym, ap, ◌∙◌, arith, fold}
-use Rattle.std.specs.Prelude.{Contains}
-use Rattle.std.specs.List.{range_with_len}
-use Rattle.sj_base.specs.declared.ids.Cell.{Cell}
-use Rattle.sj_base.specs.declared.program.Program.{Program}
-use Rattle.sj_base.specs.Array.{Array}
-use Rattle.sj_codelet.specs.declared.kernel.Kernel.{Kernel}
-use Rattle.sj_codelet.specs.Kernel.{out}
-use Rattle.sj_codelet.specs.Laws.{combined}
-use Rattle.sj_core.specs.Fold.{Contents, held_in}
-use Rattle.sj_core.specs.Laws.{IsLawful}
-use Rattle.sj_core.specs.Proper.{Proper}
-use Rattle.sj_phases.specs.declared.phase.OpenPhase.{OpenPhase}
-use Rattle.sj_phases.specs.Rows.{copy_at}
-use Rattle.sj_phases.proofs.Lists.{by_option, in-range, first-has, more-has}
+use Rattle.sj_phases.proofs.Words.{[], ap, arith, Array, Bool, Cell, combined, Contains, Contents, copy_at, fold, held_in, IsLawful, Kernel, List, None, OpenPhase, Option, out, Program, Proper, range_with_len, refl, Some, sym, ℕ, ◌<◌, ◌∙◌, ◌∷◌, ◌≡◌}
+use Rattle.sj_phases.proofs.Lists.{by_option, first-has, in-range, more-has}
 
 -- a proper program for some worker, whose set obeys the laws
 pub record IsTrusted (p : Program) : Type 0 where

@@ -1,15 +1,6 @@
 -- What cells hold after arrays were put into them.
-use Rattle.std.proofs.Common.{◌≡◌, ℕ, suc, ◌+◌, true, false, cond, Some, None, ◌∷◌, refl, ap, ◌∙◌, arith}
-use Rattle.std.specs.List.{find}
-use Rattle.sj_base.specs.declared.ids.Cell.{Cell}
-use Rattle.sj_base.specs.declared.ids.Worker.{Worker}
-use Rattle.sj_base.specs.declared.program.Program.{Program}
-use Rattle.sj_base.specs.Array.{Array, zeros}
+use Rattle.sj_phases.proofs.Words.{after_chosen, after_task, ap, arith, Array, Cell, cond, Contents, dims_of, false, find, held_in, None, out, Program, refl, same_cell, Some, suc, task, true, Worker, zeros, ℕ, ◌+◌, ◌∙◌, ◌∷◌, ◌≡◌}
 use Rattle.sj_base.proofs.SameIds.{same_cell-itself}
-use Rattle.sj_base.specs.Ids.{task}
-use Rattle.sj_codelet.specs.Kernel.{out}
-use Rattle.sj_core.specs.Program.{same_cell, dims_of}
-use Rattle.sj_core.specs.Fold.{Contents, held_in, after_task, after_chosen}
 
 pub held-cons : (p : Program) (c : Cell) (a : Array) (contents : Contents) (d : Cell) → held_in p ((c, a) ∷ contents) d ≡ cond (same_cell c d) a (held_in p contents d)
 held-cons p c a contents d = elim (same_cell c d) as (λ b. (elim (cond b (Some (c, a)) (find (λ (entry : Cell × Array). same_cell entry.0 d) contents)) as (λ _. Array) [ None ↦ zeros (dims_of p d) | Some entry ↦ entry.1 ]) ≡ cond b a (held_in p contents d)) [ true ↦ refl | false ↦ refl ]

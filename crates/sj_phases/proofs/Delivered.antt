@@ -1,33 +1,8 @@
 -- Each task of a program of blocks that delivers has one delivery, in order.
-use Rattle.std.proofs.Common.{◌≡◌, ℕ, suc, ◌+◌, ◌-◌, ◌<◌, ◌≤◌, Bool, false, cond, Option, Some, None, List, [], ◌∷◌, ◌++◌, length, get_or, map, fold, refl, sym, ap, subst, ◌∙◌, inl, inr, arith, length-append, append_assoc}
-use Rattle.std.specs.Prelude.{All, AllPairs, nat_eq, count_by}
-use Rattle.std.specs.List.{flat_map, range_with_len}
-use Rattle.std.proofs.lemmas.Bool.{cases_lt, cond_both, ne_eqb}
-use Rattle.std.proofs.lemmas.Bool.Decides.{Decides-eqb}
-use Rattle.std.proofs.lemmas.List.{get_or_append_left, get_or-append_right, get_or-append-add, get_or-map, length-map}
-use Rattle.std.proofs.lemmas.List.Elements.{All-nil, All-append, All-map, All-weaker, All-head, All-tail, All-get_or, All-from_recursion}
-use Rattle.std.proofs.lemmas.List.Kept.{AllPairs-cons}
-use Rattle.std.proofs.lemmas.List.Sums.{sum_by-cons, sum_by-append}
-use Rattle.sj_base.specs.declared.ids.Cell.{Cell}
-use Rattle.sj_base.specs.declared.ids.Line.{Line}
-use Rattle.sj_base.specs.declared.mode.Reduction.{Reduction}
-use Rattle.sj_base.specs.declared.mode.Reduction.TheVariants.{Plus, Least}
-use Rattle.sj_base.specs.declared.program.Delivery.{Delivery}
-use Rattle.sj_base.specs.declared.program.Lowered.{Lowered}
-use Rattle.sj_base.proofs.Bools.{same_test}
-use Rattle.sj_base.proofs.Lists.{sum_by-agree, sum_by-map}
-use Rattle.sj_codelet.specs.declared.kernel.Kernel.{Kernel}
-use Rattle.sj_codelet.specs.declared.kernel.Kernel.TheVariants.{Deliver}
-use Rattle.sj_codelet.specs.Kernel.{kernel_of}
-use Rattle.sj_core.specs.Program.{no_task}
-use Rattle.sj_phases.specs.declared.phase.PhaseOpening.{PhaseOpening}
-use Rattle.sj_phases.specs.Block.{TaskBlock}
-use Rattle.sj_phases.specs.Rows.{copy_at, init_row, init_rows, combine_row, combine_rows}
-use Rattle.sj_phases.specs.Expand.{Expansion, phase_turned, closed, opened, begin_rows, first_units, moved, prepared, expanded, expand}
-use Rattle.sj_phases.specs.Plain.{OpenReductions, Plainly, direct, units, plain_next, open_at}
-use Rattle.sj_phases.specs.Orderly.{IsDelivered, AreOrderly}
+use Rattle.sj_phases.proofs.Words.{[], All, AllPairs, ap, append_assoc, AreOrderly, arith, begin_rows, Bool, Cell, closed, combine_row, combine_rows, cond, copy_at, count_by, Deliver, Delivery, direct, expand, expanded, Expansion, false, first_units, flat_map, fold, get_or, init_row, init_rows, inl, inr, IsDelivered, Kernel, kernel_of, Least, length, length-append, Line, List, Lowered, map, moved, nat_eq, no_task, None, open_at, opened, OpenReductions, Option, phase_turned, PhaseOpening, plain_next, Plainly, Plus, prepared, Program, range_with_len, Reduction, refl, Some, subst, suc, sym, TaskBlock, units, ℕ, ◌++◌, ◌+◌, ◌-◌, ◌<◌, ◌∙◌, ◌∷◌, ◌≡◌, ◌≤◌}
+use Rattle.std.proofs.lemmas.{Bool.cases_lt, Bool.cond_both, Bool.Decides.Decides-eqb, Bool.ne_eqb, List.Elements.All-append, List.Elements.All-from_recursion, List.Elements.All-get_or, List.Elements.All-head, List.Elements.All-map, List.Elements.All-nil, List.Elements.All-tail, List.Elements.All-weaker, List.get_or-append-add, List.get_or-append_right, List.get_or-map, List.get_or_append_left, List.Kept.AllPairs-cons, List.length-map, List.Sums.sum_by-append, List.Sums.sum_by-cons}
+use Rattle.sj_base.proofs.{Bools.same_test, Lists.sum_by-agree, Lists.sum_by-map}
 use Rattle.sj_phases.proofs.Logging.{option-cases}
-use Rattle.sj_base.specs.declared.program.Program.{Program}
 
 -- ---- lists
 

@@ -1,25 +1,8 @@
 -- Steps of the code: what each does to an expansion, and several one after another.
-use Rattle.std.proofs.Common.{◌≡◌, ℕ, ◌+◌, ◌<◌, ◌≤◌, Bool, true, false, cond, not, Option, Some, None, List, [], ◌∷◌, ◌++◌, length, map, fold, nat_eq, nat_lt, is_some, refl, sym, ap, subst, ◌∙◌, arith, length-append, append_assoc, if◌then◌else◌}
-use Rattle.std.specs.Prelude.{IfSome}
-use Rattle.std.specs.List.{range_with_len}
-use Rattle.std.proofs.lemmas.Bool.{cond_both, le-ltb, lt-ltb, ltb-true, not-false, not-true}
-use Rattle.std.proofs.lemmas.List.{append-nil, nil_from_length}
-use Rattle.std.proofs.lemmas.List.Folds.{fold_stays}
-use Rattle.std.proofs.lemmas.List.FromFn.{map-range_with_len_more}
-use Rattle.indexmap.specs.IndexMap.{IndexMap, get, with_entries}
-use Rattle.sj_base.specs.declared.ids.Cell.{Cell}
-use Rattle.sj_base.specs.declared.ids.Line.{Line}
-use Rattle.sj_base.specs.declared.program.Delivery.{Delivery}
-use Rattle.sj_base.specs.declared.program.Lowered.{Lowered}
+use Rattle.sj_phases.proofs.Words.{[], ap, append_assoc, arith, begin_rows, Bool, Cell, closed, combine_rows, cond, Delivery, Does, Expander, Expansion, false, fold, get, HasAt, HasExpansion, IfSome, if◌then◌else◌, IndexMap, init_row, init_rows, is_some, length, length-append, Line, List, Lowered, map, most, nat_eq, nat_lt, None, not, opened, OpenPhase, Option, over_after, phase_at, phase_turned, PhaseOpening, range_with_len, refl, Some, StandsAt, subst, sym, true, with_entries, with_own, with_phase, ℕ, ◌++◌, ◌+◌, ◌<◌, ◌∙◌, ◌∷◌, ◌≡◌, ◌≤◌}
+use Rattle.std.proofs.lemmas.{Bool.cond_both, Bool.le-ltb, Bool.lt-ltb, Bool.ltb-true, Bool.not-false, Bool.not-true, List.append-nil, List.Folds.fold_stays, List.FromFn.map-range_with_len_more, List.nil_from_length}
 use Rattle.sj_base.proofs.Options.{IfSome-at}
-use Rattle.sj_phases.specs.declared.expander.Expander.{Expander}
-use Rattle.sj_phases.specs.declared.phase.PhaseOpening.{PhaseOpening}
-use Rattle.sj_phases.specs.declared.phase.OpenPhase.{OpenPhase}
-use Rattle.sj_phases.specs.Does.{HasExpansion, StandsAt, HasAt, over_after, Does}
-use Rattle.sj_phases.specs.Expand.{Expansion, most, with_phase, phase_turned, closed, opened, with_own, begin_rows, phase_at}
-use Rattle.sj_phases.specs.Rows.{init_row, init_rows, combine_rows}
-use Rattle.sj_phases.proofs.Blocks.{GoesOn}
-use Rattle.sj_phases.proofs.Logging.{phase-own, phase-other, by_which}
+use Rattle.sj_phases.proofs.{Blocks.GoesOn, Logging.by_which, Logging.phase-other, Logging.phase-own}
 
 -- ---- the line with which there were too many tasks
 

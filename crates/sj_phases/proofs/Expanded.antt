@@ -1,56 +1,11 @@
 -- The program of blocks is proper, and holds and hands over what it does without phases.
-use mathlib.Core.List.{map-map}
-use Rattle.std.proofs.Common.{◌≡◌, ℕ, ◌+◌, ◌<◌, Bool, true, false, cond, not, Some, None, List, [], ◌∷◌, ◌++◌, length, get_or, map, fold, refl, sym, ap, subst, ◌∙◌, inl, inr, arith, length-append, append_assoc}
-use Rattle.std.specs.Prelude.{◌⊎◌, All, Contains, filter}
-use Rattle.std.specs.List.{range_with_len}
-use Rattle.std.specs.Option.{is_some}
-use Rattle.std.proofs.lemmas.Bool.{cases_lt}
-use Rattle.std.proofs.lemmas.List.{append-nil, get_or_past, get_or_default, get_or-map, length-map, map-append}
-use Rattle.std.proofs.lemmas.List.Sums.{fold-append}
-use Rattle.std.proofs.lemmas.List.Elements.{All-contains, All-from_get_or, Contains-get_or}
-use Rattle.sj_base.specs.declared.ids.Cell.{Cell}
-use Rattle.sj_base.specs.declared.ids.Line.{Line}
-use Rattle.sj_base.specs.declared.ids.Task.{Task}
-use Rattle.sj_base.specs.declared.ids.Worker.{Worker}
-use Rattle.sj_base.specs.declared.mode.Mode.TheVariants.{R}
-use Rattle.sj_base.specs.declared.mode.Access.{Access}
-use Rattle.sj_base.specs.declared.mode.Reduction.{Reduction}
-use Rattle.sj_base.specs.declared.program.CellInfo.{CellInfo}
-use Rattle.sj_base.specs.declared.program.Delivery.{Delivery}
-use Rattle.sj_base.specs.declared.program.Lowered.{Lowered}
-use Rattle.sj_base.specs.declared.program.Program.{Program}
-use Rattle.sj_base.specs.Mode.{is_data, is_redux, is_scratch, reads_value}
-use Rattle.sj_base.proofs.Modes.{one-read}
-use Rattle.sj_codelet.specs.declared.kernel.Kernel.{Kernel}
-use Rattle.sj_codelet.specs.declared.kernel.Kernel.TheVariants.{Deliver}
-use Rattle.sj_codelet.specs.Kernel.{kernel_of, out}
-use Rattle.sj_core.specs.Program.{same_cell, cell_info, data_operands, task_of, no_cell, no_task}
-use Rattle.sj_core.specs.Operands.{copy_of, worked_on, cells_of}
-use Rattle.sj_core.specs.Fold.{after_chosen, held_in, held_before, given}
-use Rattle.sj_core.specs.Laws.{IsLawful, final}
-use Rattle.sj_core.specs.Proper.{Proper, FitsCodelet, MayHaveModes, IsPlain, IsUnaliased, HasValueBefore, access}
-use Rattle.sj_core.proofs.Folding.{map-same}
+use Rattle.sj_phases.proofs.Words.{[], Access, access, after_chosen, All, ap, append_assoc, AreDelivered, AreOpenings, AreOrderly, arith, Bool, Cell, cell_info, CellInfo, cells_below, cells_of, cond, Contains, copy_of, data_operands, Deliver, Delivery, direct, direct_access, expand, expanded, Expansion, false, filter, final, FitsCodelet, fold, get_or, given, handed_over, HasValueBefore, held_before, held_in, HoldsPlain, inl, inr, is_data, is_redux, is_scratch, is_some, IsLawful, IsOrderly, IsOrderlyTask, IsPlain, IsUnaliased, Kernel, kernel_of, last_block, length, length-append, Line, List, Lowered, map, MayExpand, MayHaveModes, moved, no_cell, no_task, None, none_open, not, nothing, open_after, open_at, OpenReductions, out, PhaseOpening, plain_next, plain_program, plain_rows, Plainly, prepared, Program, program_of_blocks, Proper, R, range_with_len, reads_value, Reduction, refl, same_cell, shut_by, Some, subst, sym, Task, task, task_of, TaskBlock, true, units, with_opening, with_shut, worked_on, Worker, ℕ, ◌++◌, ◌+◌, ◌<◌, ◌∙◌, ◌∷◌, ◌≡◌, ◌⊎◌}
 use Rattle.sj_core.proofs.Given.{none-open}
-use Rattle.sj_core.proofs.Modes.{deliver-modes}
-use Rattle.sj_core.proofs.Readiness.{Contains-filter, Contains-map}
-use Rattle.sj_core.proofs.TaskCells.{operand-inside}
-use Rattle.sj_core.proofs.Workers.{workers-alike}
-use Rattle.sj_phases.specs.declared.phase.PhaseOpening.{PhaseOpening}
-use Rattle.sj_phases.specs.Block.{TaskBlock}
-use Rattle.sj_phases.specs.Expand.{Expansion, nothing, expand, expanded, prepared, moved, cells_below, last_block}
-use Rattle.sj_phases.specs.Plain.{OpenReductions, Plainly, direct, direct_access, units, plain_rows, plain_next, plain_program, none_open, open_at, open_after, shut_by, with_shut, with_opening}
-use Rattle.sj_phases.specs.Orderly.{IsOrderlyTask, IsOrderly, AreOrderly, AreOpenings}
-use Rattle.sj_phases.specs.Law.{program_of_blocks, MayExpand, HoldsPlain, AreDelivered, handed_over}
-use Rattle.sj_phases.proofs.Blocks.{orderly-twin, along-blocks, begun-blocks, fine-among, fine-block, fine-start, stand-at, prepared-deliveries}
-use Rattle.sj_phases.proofs.Combined.{IsTrusted, Phases, denoted-closed}
-use Rattle.sj_base.specs.Ids.{task}
-use Rattle.sj_phases.proofs.Contents.{first_worker, contents_before}
-use Rattle.sj_phases.proofs.Delivered.{delivered-expand, delivered-plain, delivered-none}
-use Rattle.sj_phases.proofs.Fine.{Begins, Fine, by_of, none-by, begins-stand}
-use Rattle.sj_phases.proofs.Good.{AreTwins, twin-copy, twin-plain, IsGood}
-use Rattle.sj_phases.proofs.Holding.{Holds}
-use Rattle.sj_phases.proofs.Lists.{by_option, fold_keeps, cons-cases, range-has, all-from, split-at}
-use Rattle.sj_phases.proofs.Logging.{has-phases, some_is, none_isn't, by_which, phase-own, phase-other}
+use Rattle.std.proofs.lemmas.{Bool.cases_lt, List.append-nil, List.Elements.All-contains, List.Elements.All-from_get_or, List.Elements.Contains-get_or, List.get_or-map, List.get_or_default, List.get_or_past, List.length-map, List.map-append, List.Sums.fold-append}
+use Rattle.sj_base.proofs.Modes.{one-read}
+use Rattle.sj_core.proofs.{Folding.map-same, Modes.deliver-modes, Readiness.Contains-filter, Readiness.Contains-map, TaskCells.operand-inside, Workers.workers-alike}
+use Rattle.sj_phases.proofs.{Blocks.along-blocks, Blocks.begun-blocks, Blocks.fine-among, Blocks.fine-block, Blocks.fine-start, Blocks.orderly-twin, Blocks.prepared-deliveries, Blocks.stand-at, Combined.denoted-closed, Combined.IsTrusted, Combined.Phases, Contents.contents_before, Contents.first_worker, Delivered.delivered-expand, Delivered.delivered-none, Delivered.delivered-plain, Fine.Begins, Fine.begins-stand, Fine.by_of, Fine.Fine, Fine.none-by, Good.AreTwins, Good.IsGood, Good.twin-copy, Good.twin-plain, Holding.Holds, Lists.all-from, Lists.by_option, Lists.cons-cases, Lists.fold_keeps, Lists.range-has, Lists.split-at, Logging.by_which, Logging.has-phases, Logging.none_isn't, Logging.phase-other, Logging.phase-own, Logging.some_is}
+use mathlib.Core.List.{map-map}
 
 -- no task yet
 abbrev pub start : Plainly

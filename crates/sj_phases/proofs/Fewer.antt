@@ -1,26 +1,8 @@
 -- Without phases there are no more tasks than with them.
-use Rattle.std.proofs.Common.{◌≡◌, ℕ, ◌≤◌, true, false, cond, Option, Some, None, List, [], ◌∷◌, ◌++◌, length, map, fold, refl, sym, ap, ◌∙◌, arith, length-append, append_assoc}
-use Rattle.std.specs.List.{flat_map}
-use Rattle.std.proofs.lemmas.Bool.{cond_both}
-use Rattle.std.proofs.lemmas.List.{length-map}
-use Rattle.std.proofs.lemmas.List.Folds.{fold_along}
-use Rattle.sj_base.specs.declared.ids.Cell.{Cell}
-use Rattle.sj_base.specs.declared.ids.Line.{Line}
-use Rattle.sj_base.specs.declared.mode.Reduction.{Reduction}
-use Rattle.sj_base.specs.declared.program.Lowered.{Lowered}
-use Rattle.sj_base.specs.declared.program.CellInfo.{CellInfo}
-use Rattle.sj_base.specs.declared.program.Program.{Program}
+use Rattle.sj_phases.proofs.Words.{[], ap, append_assoc, AreOpenings, AreOrderly, arith, begin_rows, Cell, CellInfo, closed, cond, direct, expand, expanded, Expansion, false, first_units, flat_map, fold, init_row, init_rows, IsOrderly, IsOrderlyOpening, length, length-append, Line, List, Lowered, map, None, none_open, nothing, open_at, opened, OpenReductions, Option, phase_at, PhaseOpening, plain_next, plain_program, plain_rows, Plainly, prepared, Program, Reduction, refl, same_cell, shut_by, Some, sym, TaskBlock, true, units, with_opening, with_shut, ℕ, ◌++◌, ◌∙◌, ◌∷◌, ◌≡◌, ◌≤◌}
+use Rattle.std.proofs.lemmas.{Bool.cond_both, List.Folds.fold_along, List.length-map}
 use Rattle.sj_base.proofs.SameIds.{same_cell-is}
-use Rattle.sj_core.specs.Program.{same_cell}
-use Rattle.sj_phases.specs.declared.phase.PhaseOpening.{PhaseOpening}
-use Rattle.sj_phases.specs.Block.{TaskBlock}
-use Rattle.sj_phases.specs.Rows.{init_row, init_rows}
-use Rattle.sj_phases.specs.Expand.{Expansion, nothing, closed, opened, begin_rows, first_units, phase_at, prepared, expanded, expand}
-use Rattle.sj_phases.specs.Plain.{OpenReductions, Plainly, plain_next, plain_rows, plain_program, units, direct, none_open, with_shut, with_opening, shut_by, open_at}
-use Rattle.sj_phases.specs.Orderly.{AreOpenings, IsOrderly, AreOrderly, IsOrderlyOpening}
-use Rattle.sj_phases.proofs.Fine.{by_of}
-use Rattle.sj_phases.proofs.Lists.{by_option}
-use Rattle.sj_phases.proofs.Blocks.{by_closed, goes-closes, along-blocks}
+use Rattle.sj_phases.proofs.{Blocks.along-blocks, Blocks.by_closed, Blocks.goes-closes, Fine.by_of, Lists.by_option}
 
 -- where a phase is open, it is known with its reduction
 abbrev AreLinked : Expansion → OpenReductions → Type 0

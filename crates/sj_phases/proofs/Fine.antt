@@ -1,48 +1,9 @@
 -- What holds of the program of blocks and of their program without phases, task by task.
-use Rattle.std.proofs.Common.{◌≡◌, ℕ, ◌+◌, ◌-◌, ◌<◌, ◌≤◌, true, false, cond, not, ◌&&◌, ◌||◌, Option, Some, None, List, [], ◌∷◌, ◌++◌, length, refl, sym, ap, subst, subst₂, ◌∙◌, inl, inr, arith, length-append}
-use Rattle.std.specs.Prelude.{All, Contains}
-use Rattle.std.specs.List.{list_any}
-use Rattle.std.specs.Option.{is_some, option_map}
-use Rattle.std.proofs.lemmas.Bool.{cases_lt, cases_Bool}
-use Rattle.std.proofs.lemmas.List.{append-nil, get_or_past}
-use Rattle.std.proofs.lemmas.List.Elements.{All-contains, All-get_or}
-use Rattle.std.proofs.lemmas.List.FromFn.{length-map-range_with_len}
-use Rattle.sj_base.specs.declared.ids.Cell.{Cell}
-use Rattle.sj_base.specs.declared.ids.Line.{Line}
-use Rattle.sj_base.specs.declared.ids.Worker.{Worker}
-use Rattle.sj_base.specs.declared.mode.Mode.TheVariants.{Redux}
-use Rattle.sj_base.specs.declared.mode.Access.{Access}
-use Rattle.sj_base.specs.declared.mode.Reduction.{Reduction}
-use Rattle.sj_base.specs.declared.program.CellInfo.{CellInfo}
-use Rattle.sj_base.specs.declared.program.Lowered.{Lowered}
-use Rattle.sj_base.specs.declared.program.Program.{Program}
-use Rattle.sj_base.specs.Mode.{is_redux, is_written, reads_value}
-use Rattle.sj_codelet.specs.Kernel.{contributes_of, out}
-use Rattle.sj_codelet.specs.Laws.{IsReduction}
-use Rattle.sj_core.specs.Program.{same_cell, dims_of, cell_info, task_of, data_operands, no_cell, no_task}
-use Rattle.sj_core.specs.Fold.{Contents}
-use Rattle.sj_core.specs.Proper.{Proper, FitsCodelet, IsPlain, HasValueBefore, access}
-use Rattle.sj_core.proofs.Readiness.{list_any-some}
-use Rattle.sj_core.proofs.Sized.{AreSized, after_chosen-sized}
-use Rattle.sj_phases.specs.declared.phase.PhaseOpening.{PhaseOpening}
-use Rattle.sj_phases.specs.declared.phase.OpenPhase.{OpenPhase}
-use Rattle.sj_phases.specs.Rows.{copy_at, init_row, combine_row, combine_rows}
-use Rattle.sj_phases.specs.Expand.{Expansion, with_phase, phase_turned, closed, opened, begin_rows, first_units, phase_at}
-use Rattle.sj_phases.specs.Plain.{OpenReductions, direct, with_shut, with_opening}
-use Rattle.sj_phases.specs.Orderly.{Contributes, IsOrderlyTask, IsOrderlyOpening}
-use Rattle.sj_phases.proofs.Beginning.{OfCopy, OfCell, beginner, begin-parts, begin-length, log-begin}
-use Rattle.sj_phases.proofs.Closing.{log-close}
-use Rattle.sj_phases.proofs.Combined.{IsTrusted, Phases}
-use Rattle.sj_base.specs.Ids.{task}
+use Rattle.sj_phases.proofs.Words.{[], Access, access, All, ap, arith, begin_rows, Cell, cell_info, CellInfo, closed, combine_row, combine_rows, cond, Contains, Contents, Contributes, contributes_of, copy_at, data_operands, dims_of, direct, Expansion, false, first_units, FitsCodelet, HasValueBefore, init_row, inl, inr, is_redux, is_some, is_written, IsOrderlyOpening, IsOrderlyTask, IsPlain, IsReduction, length, length-append, Line, List, list_any, Lowered, no_cell, no_task, None, not, opened, OpenPhase, OpenReductions, Option, option_map, out, phase_at, phase_turned, PhaseOpening, Program, Proper, reads_value, Reduction, Redux, refl, same_cell, Some, subst, subst₂, sym, task, task_of, true, with_opening, with_phase, with_shut, Worker, ℕ, ◌&&◌, ◌++◌, ◌+◌, ◌-◌, ◌<◌, ◌||◌, ◌∙◌, ◌∷◌, ◌≡◌, ◌≤◌}
+use Rattle.std.proofs.lemmas.{Bool.cases_Bool, Bool.cases_lt, List.append-nil, List.Elements.All-contains, List.Elements.All-get_or, List.FromFn.length-map-range_with_len, List.get_or_past}
+use Rattle.sj_core.proofs.{Readiness.list_any-some, Sized.after_chosen-sized, Sized.AreSized}
+use Rattle.sj_phases.proofs.{Beginning.begin-length, Beginning.begin-parts, Beginning.beginner, Beginning.log-begin, Beginning.OfCell, Beginning.OfCopy, Closing.log-close, Combined.IsTrusted, Combined.Phases, Contents.contents-next, Contents.contents_before, Contents.first_worker, Folding.after_rows, Folding.contents-rows, Folding.later, Folding.Stand, Folding.stand-there, Good.AreTwins, Good.good_combine, Good.good_init, Good.good_own, Good.HasItsCopies, Good.IsGood, Good.twin-copy, Good.twin-dims, Good.values-own, Good.values-units, Holding.AreOwned, Holding.bare, Holding.Holds, Holding.holds-begin, Holding.holds-beside, Holding.holds-close, Holding.holds-gift, Holding.holds-line, Lists.all-from, Logging.AreApart, Logging.IsLogged, Logging.IsOwnTask, Logging.IsToCome, Logging.log-line, Logging.log-own, Logging.Logged, Logging.none_isn't, Logging.option-cases, Logging.phase-both, Logging.phase-each, Logging.redux-access, Logging.row-at, Logging.some_is, Logging.used-now, Owning.copy-is, Owning.is-copy, Owning.IsOwn, Phasing.turned-bare}
 use Rattle.sj_base.proofs.SameIds.{same_cell-itself}
-use Rattle.sj_phases.proofs.Contents.{first_worker, contents_before, contents-next}
-use Rattle.sj_phases.proofs.Folding.{Stand, stand-there, after_rows, contents-rows, later}
-use Rattle.sj_phases.proofs.Good.{AreTwins, twin-dims, twin-copy, IsGood, HasItsCopies, good_init, good_combine, good_own, values-own, values-units}
-use Rattle.sj_phases.proofs.Holding.{Holds, AreOwned, bare, holds-close, holds-line, holds-begin, holds-beside, holds-gift}
-use Rattle.sj_phases.proofs.Lists.{all-from}
-use Rattle.sj_phases.proofs.Logging.{AreApart, IsLogged, IsToCome, Logged, IsOwnTask, phase-each, phase-both, option-cases, some_is, none_isn't, row-at, used-now, log-line, log-own, redux-access}
-use Rattle.sj_phases.proofs.Owning.{IsOwn, copy-is, is-copy}
-use Rattle.sj_phases.proofs.Phasing.{turned-bare}
 
 -- a list begins so
 abbrev pub Begins : List Lowered → List Lowered → Type 0

@@ -1,19 +1,8 @@
 -- What cells hold after tasks that stand one after another in a program.
-use Rattle.std.proofs.Common.{◌≡◌, ℕ, ◌+◌, ◌<◌, ◌≤◌, List, [], ◌∷◌, ◌++◌, length, get_or, map as each_of, refl, sym, ap, subst, ◌∙◌, arith, append_assoc, length-append}
-use Rattle.std.specs.List.{zip, filter}
+use Rattle.sj_phases.proofs.Words.{[], ap, append_assoc, arith, Cell, Contents, each_of, filter, found, get_or, HasValueBefore, held_in, is_written, length, length-append, List, Lowered, no_task, out, Program, refl, subst, sym, task, task_of, worked_on, zip, ℕ, ◌++◌, ◌+◌, ◌<◌, ◌∙◌, ◌∷◌, ◌≡◌, ◌≤◌}
 use Rattle.std.proofs.Math.Seq.{get_or-append_seam}
-use Rattle.sj_base.specs.declared.ids.Cell.{Cell}
-use Rattle.sj_base.specs.declared.program.Lowered.{Lowered}
-use Rattle.sj_base.specs.declared.program.Program.{Program}
-use Rattle.sj_base.specs.Mode.{is_written}
-use Rattle.sj_base.proofs.Numbers.{none_more, length_more}
-use Rattle.sj_base.specs.Ids.{task}
-use Rattle.sj_codelet.specs.Kernel.{out}
-use Rattle.sj_core.specs.Program.{no_task, task_of}
-use Rattle.sj_core.specs.Proper.{HasValueBefore}
-use Rattle.sj_core.specs.Fold.{Contents, held_in}
-use Rattle.sj_core.specs.Operands.{worked_on, found}
-use Rattle.sj_phases.proofs.Contents.{first_worker, contents_before, contents-next}
+use Rattle.sj_base.proofs.Numbers.{length_more, none_more}
+use Rattle.sj_phases.proofs.Contents.{contents-next, contents_before, first_worker}
 
 -- ---- tasks in a program
 

@@ -1,48 +1,11 @@
 -- Each task is as a proper program has it, by the same blocks without phases.
-use Rattle.std.proofs.Common.{◌≡◌, ℕ, ◌+◌, ◌<◌, Bool, true, false, cond, not, ◌&&◌, Some, None, List, [], ◌∷◌, length, get_or, map, refl, sym, ap, subst, subst₂, ◌∙◌, inl, inr, arith}
-use Rattle.std.specs.Prelude.{All, AllPairs, Contains, filter}
-use Rattle.std.specs.List.{list_any}
-use Rattle.std.specs.Option.{is_some}
+use Rattle.sj_phases.proofs.Words.{[], Access, All, AllPairs, ap, arith, Bool, Cell, cell_info, CellInfo, combine_of, combine_row, cond, Contains, Contributes, contributes_of, copy_of, data_operands, Deliver, dims_of, direct, direct_access, direct_mode, false, filter, first_units, fits, FitsCodelet, get_or, gives_value, HasValueBefore, init_of, init_row, inl, inr, is_redux, is_scratch, is_some, is_written, IsCopyOf, IsPlain, IsUnaliased, Kernel, kernel_of, Least, length, Line, List, list_any, Lowered, map, MayHaveModes, Mode, modes_writing_by, no_cell, no_task, None, not, OpenReductions, PhaseOpening, Plus, Program, Proper, R, reads_value, Reduction, Redux, refl, RW, same_cell, Some, subst, subst₂, sym, task, task_of, true, W, Worker, writes_one, ℕ, ◌&&◌, ◌+◌, ◌<◌, ◌∙◌, ◌∷◌, ◌≡◌}
+use Rattle.sj_base.specs.Mode.{access}
+use Rattle.std.proofs.lemmas.{Bool.cases_Bool, Bool.cases_lt, Bool.cond_both, Bool.false_from_ne_true, Bool.false≢true, List.Elements.All-contains, List.Elements.All-from_recursion, List.Elements.All-get_or, List.Folds.list_any-from_Any, List.Folds.map_fixed, List.get_or-map, List.Kept.AllPairs-cons, List.length-map}
+use Rattle.sj_core.proofs.{Dependencies.map-from, Folding.map-same, Readiness.Contains-map, Readiness.list_any-some}
+use Rattle.sj_phases.proofs.{Adding.same-itself, Folding.later, Folding.Stand, Lists.all-from, Lists.All-unmap, Logging.some_is}
+use Rattle.sj_base.proofs.{Bools.and_rest, Modes.redux-is, SameIds.same_cell-is}
 use mathlib.Core.List.{map-map}
-use Rattle.std.proofs.lemmas.Bool.{false≢true, false_from_ne_true, cases_lt, cases_Bool, cond_both}
-use Rattle.std.proofs.lemmas.List.{length-map, get_or-map}
-use Rattle.std.proofs.lemmas.List.Folds.{list_any-from_Any, map_fixed}
-use Rattle.std.proofs.lemmas.List.Elements.{All-from_recursion, All-contains, All-get_or}
-use Rattle.std.proofs.lemmas.List.Kept.{AllPairs-cons}
-use Rattle.sj_base.specs.declared.ids.Cell.{Cell}
-use Rattle.sj_base.specs.declared.ids.Line.{Line}
-use Rattle.sj_base.specs.declared.ids.Worker.{Worker}
-use Rattle.sj_base.specs.declared.mode.Mode.{Mode}
-use Rattle.sj_base.specs.declared.mode.Mode.TheVariants.{R, W, RW, Redux}
-use Rattle.sj_base.specs.declared.mode.Access.{Access}
-use Rattle.sj_base.specs.declared.mode.Reduction.{Reduction}
-use Rattle.sj_base.specs.declared.mode.Reduction.TheVariants.{Plus, Least}
-use Rattle.sj_base.specs.declared.program.CellInfo.{CellInfo}
-use Rattle.sj_base.specs.declared.program.Lowered.{Lowered}
-use Rattle.sj_base.specs.declared.program.Program.{Program}
-use Rattle.sj_base.specs.Mode.{is_scratch, is_redux, is_written, reads_value, access}
-use Rattle.sj_codelet.specs.declared.kernel.Kernel.{Kernel}
-use Rattle.sj_codelet.specs.declared.kernel.Kernel.TheVariants.{Deliver}
-use Rattle.sj_codelet.specs.Kernel.{kernel_of, fits, init_of, combine_of, contributes_of}
-use Rattle.sj_core.specs.Program.{same_cell, dims_of, cell_info, task_of, data_operands, no_task, no_cell}
-use Rattle.sj_core.specs.Operands.{copy_of}
-use Rattle.sj_core.specs.Proper.{Proper, IsCopyOf, IsPlain, HasValueBefore, FitsCodelet, MayHaveModes, IsUnaliased, gives_value, modes_writing_by, writes_one}
-use Rattle.sj_core.proofs.Dependencies.{map-from}
-use Rattle.sj_core.proofs.Folding.{map-same}
-use Rattle.sj_core.proofs.Readiness.{Contains-map, list_any-some}
-use Rattle.sj_phases.specs.declared.phase.PhaseOpening.{PhaseOpening}
-use Rattle.sj_phases.specs.Rows.{init_row, combine_row}
-use Rattle.sj_phases.specs.Expand.{first_units}
-use Rattle.sj_phases.specs.Plain.{OpenReductions, direct_mode, direct_access, direct}
-use Rattle.sj_phases.specs.Orderly.{Contributes}
-use Rattle.sj_phases.proofs.Adding.{same-itself}
-use Rattle.sj_base.specs.Ids.{task}
-use Rattle.sj_base.proofs.Bools.{and_rest}
-use Rattle.sj_base.proofs.Modes.{redux-is}
-use Rattle.sj_base.proofs.SameIds.{same_cell-is}
-use Rattle.sj_phases.proofs.Folding.{Stand, later}
-use Rattle.sj_phases.proofs.Lists.{All-unmap, all-from}
-use Rattle.sj_phases.proofs.Logging.{some_is}
 
 -- ---- programs of the same cells
 

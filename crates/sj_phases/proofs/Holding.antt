@@ -1,56 +1,10 @@
 -- What the cells denote, with contributions in partial copies, is what they hold by the same blocks without phases.
-use Rattle.sj_codelet.proofs.NewArrays.{out-makes_tiles}
-use Rattle.sj_codelet.proofs.Table.{codelet_of-kernel}
-use Rattle.std.proofs.Common.{◌≡◌, ◌≢◌, ℕ, ◌<◌, true, false, cond, not, ◌||◌, Some, None, List, [], ◌∷◌, ◌++◌, length, map, refl, sym, ap, subst, ◌∙◌, inl, inr, arith}
-use Rattle.std.specs.Prelude.{Contains, filter}
-use Rattle.std.specs.List.{list_any, find, zip}
-use Rattle.std.proofs.lemmas.Bool.{cond_both, false_from_ne_true}
-use Rattle.std.proofs.lemmas.List.{map-append}
-use Rattle.std.proofs.lemmas.List.Elements.{Contains-append_left}
-use Rattle.sj_base.specs.declared.ids.Cell.{Cell}
-use Rattle.sj_base.specs.declared.ids.Line.{Line}
-use Rattle.sj_base.specs.declared.ids.Worker.{Worker}
-use Rattle.sj_base.specs.declared.mode.Mode.TheVariants.{RW, Redux}
-use Rattle.sj_base.specs.declared.mode.Access.{Access}
-use Rattle.sj_base.specs.declared.program.Codelet.{Codelet}
-use Rattle.sj_base.specs.declared.program.Lowered.{Lowered}
-use Rattle.sj_base.specs.declared.program.Program.{Program}
-use Rattle.sj_base.specs.Array.{Array, zeros}
-use Rattle.sj_base.specs.Mode.{is_in_order, is_redux, is_scratch, is_written, starts_as_zeros}
-use Rattle.sj_codelet.specs.declared.kernel.Kernel.{Kernel}
-use Rattle.sj_codelet.specs.Kernel.{kernel_of, operand, out}
-use Rattle.sj_codelet.specs.Laws.{IsReduction, IsTile, combined, unit_of, result_of}
-use Rattle.sj_core.specs.Program.{same_cell, has_cell, dims_of, cell_info, task_of, data_operands}
-use Rattle.sj_core.specs.Operands.{worked_on, found, results, written_cells}
-use Rattle.sj_core.specs.Fold.{Contents, held_in, after_task}
-use Rattle.sj_core.specs.Proper.{FitsCodelet, IsCopyOf, IsPlain, IsContribution, access}
-use Rattle.sj_core.proofs.CellLists.{same_cell-refl}
-use Rattle.sj_core.proofs.Copies.{direct-cell}
-use Rattle.sj_core.proofs.Folding.{held_over, held-append, held_over-other, after_task-other, map-same}
-use Rattle.sj_core.proofs.Modes.{reads_isn't_scratch, written_isn't_scratch}
-use Rattle.sj_core.proofs.Readiness.{Contains-filter, Contains-from_filter}
-use Rattle.sj_core.proofs.Sharing.{operand_for}
-use Rattle.sj_core.proofs.Sized.{AreSized, Fills}
-use Rattle.sj_core.proofs.Swapping.{Updates, first_ins}
-use Rattle.sj_core.proofs.Updating.{first-is, last-is}
-use Rattle.sj_core.proofs.Values.{results-complete}
-use Rattle.sj_phases.specs.declared.phase.PhaseOpening.{PhaseOpening}
-use Rattle.sj_phases.specs.declared.phase.OpenPhase.{OpenPhase}
-use Rattle.sj_phases.specs.Rows.{copy_at, init_rows, combine_rows}
-use Rattle.sj_phases.specs.Expand.{with_phase, begin_rows, first_units, phase_at}
-use Rattle.sj_phases.specs.Plain.{direct_access, direct}
-use Rattle.sj_phases.proofs.Adding.{SizedCopies, sized, added, denotes-more, result-more, others-kept, updates, all-sized}
-use Rattle.sj_phases.proofs.Beginning.{AreApart}
-use Rattle.sj_phases.proofs.Combined.{IsTrusted, Phases, with_all, all_workers, denoted, denoted-closed, denoted-open, denoted-same, all_workers-below}
-use Rattle.sj_base.specs.Ids.{task}
+use Rattle.sj_phases.proofs.Words.{[], Access, access, after_task, ap, arith, Array, begin_rows, Cell, cell_info, Codelet, combine_rows, combined, cond, Contains, Contents, copy_at, data_operands, dims_of, direct, direct_access, false, filter, find, first_units, FitsCodelet, found, has_cell, held_in, init_rows, inl, inr, is_in_order, is_redux, is_scratch, is_written, IsContribution, IsCopyOf, IsPlain, IsReduction, IsTile, Kernel, kernel_of, length, Line, List, list_any, Lowered, map, None, not, OpenPhase, operand, out, phase_at, PhaseOpening, Program, Redux, refl, result_of, results, RW, same_cell, Some, starts_as_zeros, subst, sym, task, task_of, true, unit_of, with_phase, worked_on, Worker, written_cells, zeros, zip, ℕ, ◌++◌, ◌<◌, ◌||◌, ◌∙◌, ◌∷◌, ◌≡◌, ◌≢◌}
+use Rattle.sj_codelet.proofs.{NewArrays.out-makes_tiles, Table.codelet_of-kernel}
+use Rattle.std.proofs.lemmas.{Bool.cond_both, Bool.false_from_ne_true, List.Elements.Contains-append_left, List.map-append}
+use Rattle.sj_core.proofs.{CellLists.same_cell-refl, Copies.direct-cell, Folding.after_task-other, Folding.held-append, Folding.held_over, Folding.held_over-other, Folding.map-same, Modes.reads_isn't_scratch, Modes.written_isn't_scratch, Readiness.Contains-filter, Readiness.Contains-from_filter, Sharing.operand_for, Sized.AreSized, Sized.Fills, Swapping.first_ins, Swapping.Updates, Updating.first-is, Updating.last-is, Values.results-complete}
+use Rattle.sj_phases.proofs.{Adding.added, Adding.all-sized, Adding.denotes-more, Adding.others-kept, Adding.result-more, Adding.sized, Adding.SizedCopies, Adding.updates, Beginning.AreApart, Combined.all_workers, Combined.all_workers-below, Combined.denoted, Combined.denoted-closed, Combined.denoted-open, Combined.denoted-same, Combined.IsTrusted, Combined.Phases, Combined.with_all, Contents.contents_before, Contents.first_worker, Folding.after_row, Folding.after_rows, Folding.after_rows-append, Good.AreTwins, Good.direct-itself, Good.direct-same, Good.map-itself, Good.none-redux, Good.twin-dims, Lists.by_option, Lists.filter-last, Lists.first-has, Lists.more-has, Logging.IsOwnTask, Logging.none_isn't, Logging.phase-other, Logging.phase-own, Logging.redux-access, Logging.some_is, Logging.unlike, Owning.is-copy, Owning.IsOwn, Phasing.closed-others, Phasing.closed-value, Phasing.each_cell, Phasing.inits-copies, Phasing.inits-others, Phasing.IsBare, Phasing.units-others, Phasing.units-same}
 use Rattle.sj_base.proofs.SameIds.{same_cell-is, same_cell-turned}
-use Rattle.sj_phases.proofs.Contents.{first_worker, contents_before}
-use Rattle.sj_phases.proofs.Folding.{after_row, after_rows, after_rows-append}
-use Rattle.sj_phases.proofs.Good.{AreTwins, twin-dims, direct-same, direct-itself, none-redux, map-itself}
-use Rattle.sj_phases.proofs.Lists.{by_option, filter-last, first-has, more-has}
-use Rattle.sj_phases.proofs.Logging.{IsOwnTask, phase-own, phase-other, unlike, some_is, none_isn't, redux-access}
-use Rattle.sj_phases.proofs.Owning.{IsOwn, is-copy}
-use Rattle.sj_phases.proofs.Phasing.{IsBare, closed-value, closed-others, inits-copies, inits-others, units-others, units-same, each_cell}
 
 -- each cell that is no partial copy denotes what it holds in the program without phases
 abbrev pub Holds : (p q : Program) → Phases → Contents → Contents → Type 0

@@ -17,3 +17,4 @@ pub mod Expanded
 pub mod Doing
 pub mod Worked
 pub mod Fewer
+pub mod Words

@@ -1,11 +1,6 @@
 -- Lists of accesses, of tasks and of numbers; options, and what a fold keeps.
-use Rattle.std.proofs.Common.{◌≡◌, ℕ, zero, suc, ◌+◌, ◌-◌, ◌<◌, ◌≤◌, Option, Some, None, List, [], ◌∷◌, ◌++◌, length, get_or, map, fold, refl, sym, ap, subst, ◌∙◌, inl, inr, arith}
-use Rattle.std.specs.Prelude.{◌⊎◌, All, Contains}
-use Rattle.std.specs.List.{range_with_len}
-use Rattle.std.proofs.lemmas.List.{length-map, get_or-map}
-use Rattle.std.proofs.lemmas.List.Elements.{All-weaker, All-contains_itself, Contains-append_right}
-use Rattle.std.proofs.lemmas.List.Folds.{fold_along}
-use Rattle.std.proofs.lemmas.List.FromFn.{get_or-range_with_len, length-range_with_len}
+use Rattle.sj_phases.proofs.Words.{[], All, ap, arith, Contains, fold, get_or, inl, inr, length, List, map, None, Option, range_with_len, refl, Some, subst, suc, sym, zero, ℕ, ◌++◌, ◌+◌, ◌-◌, ◌<◌, ◌∙◌, ◌∷◌, ◌≡◌, ◌≤◌, ◌⊎◌}
+use Rattle.std.proofs.lemmas.{List.Elements.All-contains_itself, List.Elements.All-weaker, List.Elements.Contains-append_right, List.Folds.fold_along, List.FromFn.get_or-range_with_len, List.FromFn.length-range_with_len, List.get_or-map, List.length-map}
 pub use Rattle.sj_base.proofs.Lists.{filter-last, none_is as none-has, one_is as one-case, Contains-range as in-range}
 
 -- whether there is one: what holds in either case

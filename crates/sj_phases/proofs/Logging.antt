@@ -1,34 +1,11 @@
 -- The phases of a program, as they are begun, go on and are closed task by task.
-use Rattle.std.proofs.Common.{◌≡◌, ℕ, zero, suc, ◌+◌, ◌-◌, ◌<◌, ◌≤◌, Bool, true, false, cond, not, ◌&&◌, Option, Some, None, List, [], ◌∷◌, map, refl, sym, ap, subst, subst₂, ◌∙◌, inl, inr, arith}
-use Rattle.std.specs.Prelude.{◌⊎◌, All, Contains}
-use Rattle.std.specs.List.{range_with_len, list_any}
-use Rattle.std.proofs.lemmas.Bool.{false≢true, cases_lt, cases_Bool, cond_both, and_parts}
-pub use Rattle.std.proofs.lemmas.Option.{same_Some as some_is, none-some as none_isn't}
-use Rattle.std.proofs.lemmas.List.Folds.{list_any_at}
-use Rattle.std.proofs.lemmas.List.Elements.{All-nil}
-use Rattle.sj_base.specs.declared.ids.Cell.{Cell}
-use Rattle.sj_base.specs.declared.ids.Worker.{Worker}
-use Rattle.sj_base.specs.declared.mode.Mode.TheVariants.{Redux}
-use Rattle.sj_base.specs.declared.mode.Access.{Access}
-use Rattle.sj_base.specs.declared.mode.Reduction.{Reduction}
-use Rattle.sj_base.specs.declared.program.Lowered.{Lowered}
-use Rattle.sj_base.specs.declared.program.Program.{Program}
-use Rattle.sj_base.specs.Mode.{is_redux, is_scratch}
-use Rattle.sj_core.specs.Program.{data_operands, same_cell}
-use Rattle.sj_core.specs.Proper.{IsCopyOf, IsPlain, Phase, IsPhase, HasPhases, IsInit, IsContribution, Touches, names_as, task_number, access}
+use Rattle.sj_phases.proofs.Words.{[], Access, access, All, ap, arith, Bool, Cell, cond, Contains, copy_at, data_operands, false, HasPhases, inl, inr, is_redux, is_scratch, IsContribution, IsCopyOf, IsInit, IsPhase, IsPlain, List, list_any, Lowered, map, names_as, None, not, OpenPhase, Option, Phase, Program, range_with_len, Reduction, Redux, refl, same_cell, Some, subst, subst₂, suc, sym, task_number, Touches, true, with_phase, Worker, worker, zero, ℕ, ◌&&◌, ◌+◌, ◌-◌, ◌<◌, ◌∙◌, ◌∷◌, ◌≡◌, ◌≤◌, ◌⊎◌}
+use Rattle.std.proofs.lemmas.{Bool.and_parts, Bool.cases_Bool, Bool.cases_lt, Bool.cond_both, Bool.false≢true, List.Elements.All-nil, List.Folds.list_any_at}
 use Rattle.sj_core.proofs.Readiness.{Contains-from_filter, list_any-some}
-use Rattle.sj_phases.specs.declared.phase.OpenPhase.{OpenPhase}
-use Rattle.sj_phases.specs.Rows.{copy_at}
-use Rattle.sj_phases.specs.Expand.{with_phase}
-use Rattle.sj_phases.proofs.Combined.{Phases}
-use Rattle.sj_base.specs.Ids.{worker}
-use Rattle.sj_base.proofs.Numbers.{none_more, none_first, one_more}
-use Rattle.sj_base.proofs.Modes.{redux-is}
-use Rattle.sj_base.proofs.SameIds.{same_cell-is, same_cell-itself}
+use Rattle.sj_phases.proofs.{Combined.Phases, Folding.Stand, Lists.cons-cases, Lists.none-has, Owning.is-copy, Owning.IsOwn}
+use Rattle.sj_base.proofs.{Modes.redux-is, Numbers.none_first, Numbers.none_more, Numbers.one_more, SameIds.same_cell-is, SameIds.same_cell-itself}
+pub use Rattle.std.proofs.lemmas.Option.{same_Some as some_is, none-some as none_isn't}
 pub use Rattle.sj_base.proofs.SameIds.{same_cell-unlike as unlike}
-use Rattle.sj_phases.proofs.Folding.{Stand}
-use Rattle.sj_phases.proofs.Lists.{cons-cases, none-has}
-use Rattle.sj_phases.proofs.Owning.{IsOwn, is-copy}
 
 -- ---- the phase of one cell
 

@@ -1,13 +1,5 @@
 -- Whose partial copy a cell is.
-use Rattle.std.proofs.Common.{◌≡◌, ◌+◌, ◌<◌, Option, Some, None, sym, ap}
-use Rattle.std.specs.Option.{is_some}
-use Rattle.sj_base.specs.declared.ids.Cell.{Cell}
-use Rattle.sj_base.specs.declared.ids.Worker.{Worker}
-use Rattle.sj_base.specs.declared.program.Program.{Program}
-use Rattle.sj_core.specs.Program.{cell_info}
-use Rattle.sj_core.specs.Operands.{copy_of}
-use Rattle.sj_core.specs.Proper.{IsCopyOf, IsPlain}
-use Rattle.sj_phases.specs.Rows.{copy_at}
+use Rattle.sj_phases.proofs.Words.{ap, Cell, cell_info, copy_at, copy_of, is_some, IsCopyOf, IsPlain, None, Option, Program, Some, sym, Worker, ◌+◌, ◌<◌, ◌≡◌}
 
 pub copy-is : (p : Program) (c f : Cell) (w : Worker) → (cell_info p c).partials ≡ Some f → copy_of p c w ≡ copy_at f w.0
 copy-is p c f w e = ap (λ (o : Option Cell). elim o as (λ _. Cell) [ None ↦ c | Some g ↦ record { 0 = g.0 + w.0 } ]) e

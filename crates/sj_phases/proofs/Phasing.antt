@@ -1,28 +1,8 @@
 -- What the tasks that begin and close a phase leave in the cells.
-use Rattle.sj_codelet.specs.Kernel.{out}
-use Rattle.std.proofs.Common.{◌≡◌, ℕ, ◌<◌, false, cond, List, [], ◌∷◌, map, refl, sym, ap, subst, ◌∙◌, inl, inr, arith}
-use Rattle.std.specs.Prelude.{Contains}
+use Rattle.sj_phases.proofs.Words.{[], ap, arith, Array, Cell, combine_row, combine_rows, combined, cond, Contains, Contents, copy_at, dims_of, false, first_units, held_in, init_row, init_rows, inl, inr, Least, Line, List, Lowered, map, OpenPhase, out, PhaseOpening, Plus, Program, Reduction, refl, same_cell, subst, sym, unit_of, ℕ, ◌<◌, ◌∙◌, ◌∷◌, ◌≡◌}
 use Rattle.std.proofs.lemmas.Bool.{cond_both}
-use Rattle.sj_base.specs.declared.ids.Cell.{Cell}
-use Rattle.sj_base.specs.declared.ids.Line.{Line}
-use Rattle.sj_base.specs.declared.mode.Reduction.{Reduction}
-use Rattle.sj_base.specs.declared.mode.Reduction.TheVariants.{Plus, Least}
-use Rattle.sj_base.specs.declared.program.Lowered.{Lowered}
-use Rattle.sj_base.specs.declared.program.Program.{Program}
-use Rattle.sj_base.specs.Array.{Array}
-use Rattle.sj_codelet.specs.Laws.{combined, unit_of}
-use Rattle.sj_core.specs.Program.{same_cell, dims_of}
-use Rattle.sj_core.specs.Fold.{Contents, held_in}
-use Rattle.sj_phases.specs.declared.phase.OpenPhase.{OpenPhase}
-use Rattle.sj_phases.specs.declared.phase.PhaseOpening.{PhaseOpening}
-use Rattle.sj_phases.specs.Rows.{copy_at, init_row, init_rows, combine_row, combine_rows}
-use Rattle.sj_phases.specs.Expand.{first_units}
-use Rattle.sj_phases.proofs.Combined.{with_all, all_workers, all_workers-below, with_all-same}
+use Rattle.sj_phases.proofs.{Combined.all_workers, Combined.all_workers-below, Combined.with_all, Combined.with_all-same, Contents.held-cons, Contents.held-other, Contents.held-same, Folding.after_row, Folding.after_rows, Lists.cons-cases, Lists.first-has, Lists.more-has, Lists.none-has, Lists.range-has, Logging.by_which}
 pub use Rattle.sj_base.proofs.SameIds.{same_cell-turned as turned-bare}
-use Rattle.sj_phases.proofs.Contents.{held-same, held-other, held-cons}
-use Rattle.sj_phases.proofs.Folding.{after_row, after_rows}
-use Rattle.sj_phases.proofs.Lists.{cons-cases, none-has, first-has, more-has, range-has}
-use Rattle.sj_phases.proofs.Logging.{by_which}
 
 -- ---- combining
 

@@ -1,19 +1,6 @@
 -- Blocks of two jobs on two workers, and what they come to, worked out by hand.
-use Rattle.std.proofs.Common.{ℕ, true, false, Some, None, List, [], ◌∷◌, ◌≡◌, refl}
-use Rattle.sj_base.specs.declared.ids.Line.{Line}
-use Rattle.sj_base.specs.declared.mode.Mode.TheVariants.{R, W, RW, Redux}
-use Rattle.sj_base.specs.declared.mode.Access.{Access}
-use Rattle.sj_base.specs.declared.mode.Reduction.TheVariants.{Plus, Least}
-use Rattle.sj_base.specs.declared.program.Delivery.{Delivery}
-use Rattle.sj_base.specs.declared.program.Lowered.{Lowered}
-use Rattle.sj_base.specs.Ids.{cell}
-use Rattle.sj_codelet.specs.declared.kernel.Kernel.{Kernel}
-use Rattle.sj_codelet.specs.declared.kernel.Kernel.TheVariants.{Load, Add, InitPlus, InitLeast, Lowest, Deliver}
-use Rattle.sj_phases.specs.Block.{TaskBlock}
+use Rattle.sj_phases.proofs.Words.{[], Access, Add, cell, Deliver, Delivery, expand, false, first_above, InitLeast, InitPlus, Kernel, last_block, Least, Line, List, Load, Lowered, Lowest, None, none_open, nothing, open_after, own_task, plain_program, Plus, R, Redux, refl, RW, Some, TaskBlock, true, W, ℕ, ◌∷◌, ◌≡◌}
 use Rattle.sj_base.specs.Mode.{access}
-use Rattle.sj_phases.specs.Rows.{own_task}
-use Rattle.sj_phases.specs.Expand.{expand, nothing, last_block, first_above}
-use Rattle.sj_phases.specs.Plain.{plain_program, none_open, open_after}
 
 abbrev line : ℕ → Line
 line n = record { 0 = n }

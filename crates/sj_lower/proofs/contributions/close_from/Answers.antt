@@ -1,10 +1,6 @@
-use Rattle.std.proofs.Common.{◌≡◌, ◌+◌, ℕ, refl, subst, arith, fold}
+use Rattle.sj_lower.proofs.Words.{arith, Cell, cells_after, closed, Does, fold, refl, subst, ℕ, ◌+◌, ◌≡◌}
 use Rattle.std.proofs.lemmas.List.FromFn.{map-range_with_len_more}
-use Rattle.sj_base.specs.declared.ids.Cell.{Cell}
-use Rattle.sj_phases.specs.Does.{Does}
-use Rattle.sj_phases.specs.Expand.{closed}
 use Rattle.sj_phases.proofs.Doing.{has-after}
-use Rattle.sj_lower.specs.Adds.{cells_after}
 use Rattle.sj_lower.proofs.Arms.{does-close, does-start-close}
 use Rattle.sj_lower.proofs.contributions.close_from.Goals as goal
 

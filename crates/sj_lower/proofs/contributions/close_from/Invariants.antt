@@ -1,7 +1,4 @@
-use Rattle.std.proofs.Common.{fold}
-use Rattle.sj_phases.specs.Does.{Does}
-use Rattle.sj_phases.specs.Expand.{closed}
-use Rattle.sj_lower.specs.Adds.{cells_after}
+use Rattle.sj_lower.proofs.Words.{cells_after, closed, Does, fold}
 use Rattle.sj_lower.proofs.contributions.close_from.Given as goal
 
 -- the phases of the cells so far are closed

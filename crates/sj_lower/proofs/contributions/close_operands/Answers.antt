@@ -1,17 +1,10 @@
-use Rattle.std.proofs.Common.{◌+◌, ◌++◌, ◌∷◌, ◌∙◌, [], List, fold, map, take, refl, sym, ap, subst, arith}
-use Rattle.std.specs.List.{filter}
-use Rattle.std.proofs.lemmas.List.{take_all}
-use Rattle.sj_base.specs.declared.ids.Cell.{Cell}
-use Rattle.sj_meaning.specs.declared.job.Operand.{Operand}
-use Rattle.sj_phases.specs.declared.expander.Expander.{Expander}
-use Rattle.sj_phases.specs.Does.{Does}
-use Rattle.sj_phases.specs.Expand.{closed}
-use Rattle.sj_phases.proofs.Doing.{has-after}
-use Rattle.sj_lower.specs.declared.layout.Active.{Active}
-use Rattle.sj_lower.specs.Follows.{cell_by, is_other}
-use Rattle.sj_lower.proofs.Arms.{does-close, does-start-close}
-use Rattle.sj_lower.proofs.Finding.{more-found, none-more}
+use Rattle.sj_lower.proofs.Words.{[], Active, ap, arith, Cell, cell_by, closed, Does, Expander, filter, fold, is_other, List, map, refl, subst, sym, ◌++◌, ◌+◌, ◌∙◌, ◌∷◌}
 use Rattle.sj_lower.proofs.contributions.close_operands.Goals.{else-is_other, then-is_other+in_ok-close}
+use Rattle.sj_meaning.specs.declared.job.Operand.{Operand}
+use Rattle.std.proofs.lemmas.List.{take_all}
+use Rattle.sj_phases.proofs.Doing.{has-after}
+use Rattle.sj_lower.proofs.{Arms.does-close, Arms.does-start-close, Finding.more-found, Finding.none-more}
+use Rattle.std.proofs.Common.{take}
 use Rattle.sj_lower.proofs.contributions.close_operands.Goals as goal
 
 abbrev cells : List Active → List Operand → List Cell

@@ -1,8 +1,5 @@
-use Rattle.std.proofs.Common.{fold, map, take}
-use Rattle.std.specs.List.{filter}
-use Rattle.sj_phases.specs.Does.{Does}
-use Rattle.sj_phases.specs.Expand.{closed}
-use Rattle.sj_lower.specs.Follows.{cell_by, is_other}
+use Rattle.sj_lower.proofs.Words.{cell_by, closed, Does, filter, fold, is_other, map}
+use Rattle.std.proofs.Common.{take}
 use Rattle.sj_lower.proofs.contributions.close_operands.Given as goal
 
 -- the phases of the operands so far are closed

@@ -1,8 +1,5 @@
-use Rattle.std.proofs.Common.{List, fold, subst}
+use Rattle.sj_lower.proofs.Words.{Cell, closed, Does, fold, List, subst}
 use Rattle.std.proofs.lemmas.Result.{on_ok_weaker}
-use Rattle.sj_base.specs.declared.ids.Cell.{Cell}
-use Rattle.sj_phases.specs.Does.{Does}
-use Rattle.sj_phases.specs.Expand.{closed}
 use Rattle.sj_lower.proofs.Children.{cells-listed}
 use Rattle.sj_lower.proofs.contributions.close_plan.Goals as goal
 

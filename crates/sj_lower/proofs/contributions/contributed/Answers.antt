@@ -1,6 +1,5 @@
-use Rattle.std.proofs.Common.{◌∙◌, sym, arith}
-use Rattle.sj_lower.specs.Adds.{is_contributed}
-use Rattle.sj_lower.proofs.Finding.{none-yet, none-at-all, first-found}
+use Rattle.sj_lower.proofs.Words.{arith, is_contributed, sym, ◌∙◌}
+use Rattle.sj_lower.proofs.Finding.{first-found, none-at-all, none-yet}
 use Rattle.sj_lower.proofs.contributions.contributed.Goals as goal
 
 pub returns-then-is_contribution-clause-some : goal.returns-then-is_contribution-clause-some

@@ -1,6 +1,5 @@
-use Rattle.std.proofs.Common.{◌≡◌, [], take}
-use Rattle.std.specs.List.{filter}
-use Rattle.sj_lower.specs.Adds.{is_contributed}
+use Rattle.sj_lower.proofs.Words.{[], filter, is_contributed, ◌≡◌}
+use Rattle.std.proofs.Common.{take}
 use Rattle.sj_lower.proofs.contributions.contributed.Given as goal
 
 -- none so far

@@ -1,9 +1,5 @@
-use Rattle.std.proofs.Common.{◌≡◌, ◌<◌, ◌∙◌, ap, sym, subst, length, vec_len, arith}
-use Rattle.sj_base.specs.declared.ids.Cell.{Cell}
-use Rattle.sj_lower.specs.declared.layout.Active.{Active}
-use Rattle.sj_lower.specs.Follows.{active_at, cell_by}
-use Rattle.sj_lower.proofs.Laying.{active-is}
-use Rattle.sj_lower.proofs.Tasking.{copies-room, opens-by, opens-none, opens-full}
+use Rattle.sj_lower.proofs.Words.{Active, active_at, ap, arith, Cell, cell_by, length, subst, sym, vec_len, ◌<◌, ◌∙◌, ◌≡◌}
+use Rattle.sj_lower.proofs.{Laying.active-is, Tasking.copies-room, Tasking.opens-by, Tasking.opens-full, Tasking.opens-none}
 use Rattle.sj_lower.proofs.contributions.open_operand.Goals as goal
 
 pub index-requires : goal.index-requires

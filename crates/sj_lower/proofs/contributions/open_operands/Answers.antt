@@ -1,12 +1,7 @@
-use Rattle.std.proofs.Common.{◌≡◌, ◌∙◌, [], true, length, refl, sym, ap, arith}
-use Rattle.std.specs.List.{filter}
-use Rattle.std.proofs.lemmas.Result.{IfErr-weaker, on_ok_weaker}
-use Rattle.sj_base.specs.Mode.{is_redux}
+use Rattle.sj_lower.proofs.Words.{[], ap, arith, CanOpen, filter, is_contributed, is_redux, IsActiveChild, IsFullFor, length, OpensPhase, refl, sym, true, ◌∙◌, ◌≡◌}
 use Rattle.sj_meaning.specs.declared.job.Operand.{Operand}
-use Rattle.sj_lower.specs.Adds.{is_contributed, CanOpen, OpensPhase, IsFullFor}
-use Rattle.sj_lower.specs.Follows.{IsActiveChild}
-use Rattle.sj_lower.proofs.Laying.{none-at}
-use Rattle.sj_lower.proofs.Tasking.{first-has, of-first, not-none}
+use Rattle.std.proofs.lemmas.Result.{IfErr-weaker, on_ok_weaker}
+use Rattle.sj_lower.proofs.{Laying.none-at, Tasking.first-has, Tasking.not-none, Tasking.of-first}
 use Rattle.sj_lower.proofs.contributions.open_operands.Goals as goal
 
 pub returns-in_default-clause-none : goal.returns-in_default-clause-none

@@ -1,5 +1,5 @@
-use Rattle.std.proofs.Common.{◌≡◌, ◌++◌, map, take}
-use Rattle.sj_lower.specs.Cells.{rect_cell}
+use Rattle.sj_lower.proofs.Words.{map, rect_cell, ◌++◌, ◌≡◌}
+use Rattle.std.proofs.Common.{take}
 use Rattle.sj_lower.proofs.layout.push_cells.Given as goal
 
 abbrev pub invariant-loop-rect : goal.invariant-loop-rect

@@ -1,6 +1,5 @@
-use Rattle.std.proofs.Common.{◌∙◌, ◌++◌, ◌∷◌, [], List, ℕ, ap, replicate, append_assoc, arith}
+use Rattle.sj_lower.proofs.Words.{[], ap, append_assoc, arith, CellInfo, List, replicate, ℕ, ◌++◌, ◌∙◌, ◌∷◌}
 use Rattle.std.proofs.lemmas.List.{replicate-append-replicate}
-use Rattle.sj_base.specs.declared.program.CellInfo.{CellInfo}
 use Rattle.sj_lower.proofs.layout.push_copies.Goals as goal
 
 pub loop-preserved : goal.loop-preserved

@@ -1,4 +1,4 @@
-use Rattle.std.proofs.Common.{◌≡◌, ◌++◌, replicate}
+use Rattle.sj_lower.proofs.Words.{replicate, ◌++◌, ◌≡◌}
 use Rattle.sj_lower.proofs.layout.push_copies.Given as goal
 
 -- the cells of the workers so far

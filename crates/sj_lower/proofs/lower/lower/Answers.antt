@@ -1,18 +1,6 @@
-use Rattle.std.proofs.Common.{◌≡◌, ℕ, List, [], ◌∷◌, length, refl, sym, ap, subst, ◌∙◌, arith}
-use Rattle.std.specs.Vec.Iter.{into_iter_items}
+use Rattle.sj_lower.proofs.Words.{[], ap, arith, into_iter_items, IsFullWith, IsLate, IsTable, Kept, late_limit, late_tasks, length, List, LoweringProgress, LowerRefusal, MayComeInTurn, no_cells, nothing, refl, statements_of, subst, sym, Table, ℕ, ◌∙◌, ◌∷◌, ◌≡◌}
 use Rattle.sj_base.proofs.Results.{handed}
-use Rattle.sj_meaning.specs.declared.job.Statement.{Statement as Kept}
-use Rattle.sj_meaning.specs.Table.{Table, IsTable}
-use Rattle.sj_meaning.specs.View.{statements_of}
-use Rattle.sj_phases.specs.Expand.{nothing}
-use Rattle.sj_lower.specs.declared.lower.LowerRefusal.{LowerRefusal}
-use Rattle.sj_lower.specs.declared.lower.LoweringProgress.{LoweringProgress}
-use Rattle.sj_lower.specs.Laid.{no_cells}
-use Rattle.sj_lower.specs.Limits.{late_limit, late_tasks}
-use Rattle.sj_lower.specs.Progress.{IsFullWith, IsLate}
-use Rattle.sj_lower.specs.Running.{MayComeInTurn}
-use Rattle.sj_lower.proofs.Going.{late_by, steps_from_start, GoesOn, going-start, going-has, going-more, going-full, done-has, done-few, IsShut, shut, shut-over, IsMade, made}
-use Rattle.sj_lower.proofs.Making.{is-ready, is-late, limit-is, is-lowered, is-proper, names-deliver-tasks, in-order, is-printed, all-known}
+use Rattle.sj_lower.proofs.{Going.done-few, Going.done-has, Going.GoesOn, Going.going-full, Going.going-has, Going.going-more, Going.going-start, Going.IsMade, Going.IsShut, Going.late_by, Going.made, Going.shut, Going.shut-over, Going.steps_from_start, Making.all-known, Making.in-order, Making.is-late, Making.is-lowered, Making.is-printed, Making.is-proper, Making.is-ready, Making.limit-is, Making.names-deliver-tasks}
 use Rattle.sj_lower.proofs.lower.lower.Goals as goal
 
 pub loop-statement-init : goal.loop-statement-init

@@ -1,5 +1,4 @@
-use Rattle.std.proofs.Common.{◌≡◌, length}
-use Rattle.std.specs.Vec.Iter.{into_iter_items, into_iter_len}
+use Rattle.sj_lower.proofs.Words.{into_iter_items, into_iter_len, length, ◌≡◌}
 use Rattle.sj_lower.proofs.Going.{GoesOn}
 use Rattle.sj_lower.proofs.lower.lower.Given as goal
 

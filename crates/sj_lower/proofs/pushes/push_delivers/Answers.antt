@@ -1,12 +1,6 @@
-use Rattle.std.proofs.Common.{◌≡◌, ◌∙◌, ap, arith, refl, rules, ℕ, length}
-use Rattle.sj_base.specs.declared.ids.Cell.{Cell}
-use Rattle.sj_base.specs.declared.program.Delivery.{Delivery}
-use Rattle.sj_plan.specs.declared.rect.Rect.{Rect}
-use Rattle.sj_plan.specs.Rect.{children_of, place_of}
+use Rattle.sj_lower.proofs.Words.{ap, arith, Cell, cells_from, children_of, deliver_row, Delivery, length, place_of, Rect, refl, rules, ℕ, ◌∙◌, ◌≡◌}
 use Rattle.sj_phases.proofs.Doing.{has-after}
-use Rattle.sj_lower.specs.Cells.{cells_from}
-use Rattle.sj_lower.specs.Rows.{deliver_row}
-use Rattle.sj_lower.proofs.Children.{no-deliveries, delivered-child, delivered-children, cell-at, rect-at, length-children}
+use Rattle.sj_lower.proofs.Children.{cell-at, delivered-child, delivered-children, length-children, no-deliveries, rect-at}
 use Rattle.sj_lower.proofs.pushes.push_delivers.Goals as goal
 
 pub loop-k-init : goal.loop-k-init

@@ -1,8 +1,4 @@
-use Rattle.std.proofs.Common.{ℕ}
-use Rattle.sj_phases.specs.Does.{Does}
-use Rattle.sj_phases.specs.Expand.{with_own}
-use Rattle.sj_lower.specs.Cells.{cells_from}
-use Rattle.sj_lower.specs.Rows.{deliver_row}
+use Rattle.sj_lower.proofs.Words.{cells_from, deliver_row, Does, with_own, ℕ}
 use Rattle.sj_lower.proofs.Children.{first_children, first_deliveries}
 use Rattle.sj_lower.proofs.pushes.push_delivers.Given as goal
 

@@ -1,13 +1,6 @@
-use Rattle.std.proofs.Common.{◌≡◌, ◌∙◌, ◌+◌, ap, arith, refl, rules, ℕ, length}
-use Rattle.sj_base.specs.declared.ids.Cell.{Cell}
-use Rattle.sj_base.specs.Ids.{cell}
-use Rattle.sj_plan.specs.declared.rect.Rect.{Rect}
-use Rattle.sj_plan.specs.Rect.{child, children_of}
+use Rattle.sj_lower.proofs.Words.{ap, arith, Cell, cell, cells_from, child, children_of, fill_row, length, Rect, refl, rules, ℕ, ◌+◌, ◌∙◌, ◌≡◌}
 use Rattle.sj_phases.proofs.Doing.{does-start, has-after}
-use Rattle.sj_lower.specs.Cells.{cells_from}
-use Rattle.sj_lower.specs.Rows.{fill_row}
-use Rattle.sj_lower.proofs.Children.{does-child, does-children, cell-at, rect-at, length-children}
-use Rattle.sj_lower.proofs.Places.{place_at}
+use Rattle.sj_lower.proofs.{Children.cell-at, Children.does-child, Children.does-children, Children.length-children, Children.rect-at, Places.place_at}
 use Rattle.sj_lower.proofs.pushes.push_fills.Goals as goal
 
 pub loop-k-init : goal.loop-k-init

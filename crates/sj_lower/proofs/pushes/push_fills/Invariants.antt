@@ -1,9 +1,4 @@
-use Rattle.std.proofs.Common.{ℕ, []}
-use Rattle.sj_plan.specs.Rect.{child}
-use Rattle.sj_phases.specs.Does.{Does}
-use Rattle.sj_phases.specs.Expand.{with_own}
-use Rattle.sj_lower.specs.Cells.{cells_from}
-use Rattle.sj_lower.specs.Rows.{fill_row}
+use Rattle.sj_lower.proofs.Words.{[], cells_from, child, Does, fill_row, with_own, ℕ}
 use Rattle.sj_lower.proofs.Children.{first_children}
 use Rattle.sj_lower.proofs.pushes.push_fills.Given as goal
 

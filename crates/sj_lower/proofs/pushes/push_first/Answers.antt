@@ -1,13 +1,6 @@
-use Rattle.std.proofs.Common.{[], OnOk, ap, sym, subst, arith, rules}
-use Rattle.std.proofs.lemmas.Int.{ints, to_z-of_z}
-use Rattle.std.proofs.lemmas.Result.{on_ok_weaker}
-use Rattle.sj_meaning.specs.declared.job.Init.{Init}
-use Rattle.sj_meaning.specs.declared.job.Init.TheVariants.{Fill}
-use Rattle.sj_phases.specs.Does.{Does}
-use Rattle.sj_phases.specs.Expand.{with_own}
+use Rattle.sj_lower.proofs.Words.{[], ap, arith, cells_from, Does, Fill, Init, load_rows, OnOk, rules, subst, sym, with_own}
+use Rattle.std.proofs.lemmas.{Int.ints, Int.to_z-of_z, Result.on_ok_weaker}
 use Rattle.sj_phases.proofs.Doing.{does-start}
-use Rattle.sj_lower.specs.Cells.{cells_from}
-use Rattle.sj_lower.specs.Rows.{load_rows}
 use Rattle.sj_lower.proofs.pushes.push_first.Goals as goal
 
 pub returns-in-Values : goal.returns-in-Values

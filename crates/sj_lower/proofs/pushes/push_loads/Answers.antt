@@ -1,16 +1,5 @@
-use Rattle.std.proofs.Common.{◌≡◌, ◌∙◌, ◌∷◌, [], List, ℤ, ap, sym, subst, rules}
-use Rattle.sj_base.specs.declared.program.Lowered.{Lowered}
-use Rattle.sj_base.specs.declared.tile.Dims.{Dims}
-use Rattle.sj_base.specs.Array.{Array}
-use Rattle.sj_codelet.specs.declared.kernel.Kernel.TheVariants.{Load}
-use Rattle.sj_codelet.specs.Kernel.{codelet_of}
+use Rattle.sj_lower.proofs.Words.{[], ap, Array, cells_from, codelet_of, Dims, Does, List, Load, load_rows, Lowered, rules, subst, sym, task_by, Values, with_own, ℤ, ◌∙◌, ◌∷◌, ◌≡◌}
 use Rattle.std.proofs.lemmas.Result.{on_ok_weaker}
-use Rattle.sj_meaning.specs.declared.job.Init.TheVariants.{Values}
-use Rattle.sj_phases.specs.Does.{Does}
-use Rattle.sj_phases.specs.Expand.{with_own}
-use Rattle.sj_phases.specs.Rows.{task_by}
-use Rattle.sj_lower.specs.Cells.{cells_from}
-use Rattle.sj_lower.specs.Rows.{load_rows}
 use Rattle.sj_lower.proofs.Children.{one-load}
 use Rattle.sj_lower.proofs.pushes.push_loads.Goals as goal
 

@@ -1,12 +1,6 @@
-use Rattle.std.proofs.Common.{◌≡◌, ◌∙◌, [], length, map, refl, sym, ap, subst, arith}
+use Rattle.sj_lower.proofs.Words.{[], ap, arith, cells_from, Does, Expander, HasAt, length, map, paste_row, pastes_of, refl, subst, sym, with_own, ◌∙◌, ◌≡◌}
 use Rattle.std.proofs.lemmas.List.{length-map}
-use Rattle.sj_plan.specs.Paste.{pastes_of}
-use Rattle.sj_phases.specs.declared.expander.Expander.{Expander}
-use Rattle.sj_phases.specs.Does.{HasAt, Does}
-use Rattle.sj_phases.specs.Expand.{with_own}
 use Rattle.sj_phases.proofs.Doing.{does-start, has-after}
-use Rattle.sj_lower.specs.Cells.{cells_from}
-use Rattle.sj_lower.specs.Rows.{paste_row}
 use Rattle.sj_lower.proofs.Pushing.{does-listed, does-pushed-all}
 use Rattle.sj_lower.proofs.pushes.push_pastes.Goals as goal
 

@@ -1,9 +1,5 @@
-use Rattle.std.proofs.Common.{map, take, []}
-use Rattle.sj_plan.specs.Paste.{pastes_of}
-use Rattle.sj_phases.specs.Does.{Does}
-use Rattle.sj_phases.specs.Expand.{with_own}
-use Rattle.sj_lower.specs.Cells.{cells_from}
-use Rattle.sj_lower.specs.Rows.{paste_row}
+use Rattle.sj_lower.proofs.Words.{[], cells_from, Does, map, paste_row, pastes_of, with_own}
+use Rattle.std.proofs.Common.{take}
 use Rattle.sj_lower.proofs.pushes.push_pastes.Given as goal
 
 -- the tasks of the pastes so far

@@ -1,5 +1,5 @@
-use Rattle.std.proofs.Common.{◌≡◌, map, take}
-use Rattle.sj_lower.specs.Follows.{access_by}
+use Rattle.sj_lower.proofs.Words.{access_by, map, ◌≡◌}
+use Rattle.std.proofs.Common.{take}
 use Rattle.sj_lower.proofs.layout.Layout.accesses.Given as goal
 
 -- the accesses of the operands so far

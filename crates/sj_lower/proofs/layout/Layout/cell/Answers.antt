@@ -1,8 +1,4 @@
-use Rattle.std.proofs.Common.{◌+◌, ◌≤◌, ◌∙◌, ap, sym, subst, arith}
-use Rattle.sj_plan.specs.Parts.{IsPlace, children_count}
-use Rattle.sj_phases.specs.Expand.{most}
-use Rattle.sj_lower.specs.declared.rows.Placed.{Placed}
-use Rattle.sj_lower.specs.Cells.{cells_from}
+use Rattle.sj_lower.proofs.Words.{ap, arith, cells_from, children_count, IsPlace, most, Placed, subst, sym, ◌+◌, ◌∙◌, ◌≤◌}
 use Rattle.sj_lower.proofs.layout.Layout.cell.Goals as goal
 
 pub placed-requires : goal.placed-requires

@@ -1,10 +1,7 @@
-use Rattle.std.proofs.Common.{◌≡◌, ◌∙◌, ◌++◌, ◌<◌, List, get_or, length, replicate, refl, sym, ap, arith, length-append}
+use Rattle.sj_lower.proofs.Words.{ap, arith, CellInfo, get_or, length, length-append, List, no_cell, refl, replicate, sym, with_partials, ◌++◌, ◌<◌, ◌∙◌, ◌≡◌}
 use Rattle.std.proofs.Math.ListN.{set}
-use Rattle.std.proofs.lemmas.List.{get_or_append_left, get_or_default, length-set, length-replicate}
-use Rattle.sj_base.specs.declared.program.CellInfo.{CellInfo}
-use Rattle.sj_core.specs.Program.{no_cell}
-use Rattle.sj_lower.specs.Cells.{with_partials}
-use Rattle.sj_lower.proofs.Laying.{lays-copies, lays-copied, copies-full}
+use Rattle.std.proofs.lemmas.List.{get_or_append_left, get_or_default, length-replicate, length-set}
+use Rattle.sj_lower.proofs.Laying.{copies-full, lays-copied, lays-copies}
 use Rattle.sj_lower.proofs.layout.Layout.copies.Goals as goal
 
 pub returns-in-Some-clause-copied : goal.returns-in-Some-clause-copied

@@ -1,5 +1,4 @@
-use Rattle.std.proofs.Common.{ap, arith}
-use Rattle.sj_lower.specs.declared.layout.Active.{Active}
+use Rattle.sj_lower.proofs.Words.{Active, ap, arith}
 use Rattle.sj_lower.proofs.Laying.{active-is}
 use Rattle.sj_lower.proofs.layout.Layout.placed.Goals as goal
 

@@ -1,6 +1,5 @@
-use Rattle.std.proofs.Common.{◌≡◌, ◌<◌, refl, sym, subst, vec_len, arith}
+use Rattle.sj_lower.proofs.Words.{arith, Placed, refl, subst, sym, vec_len, ◌<◌, ◌≡◌}
 use Rattle.sj_base.proofs.Options.{IfSome-at}
-use Rattle.sj_lower.specs.declared.rows.Placed.{Placed}
 use Rattle.sj_lower.proofs.Laying.{plans, plans-full}
 use Rattle.sj_lower.proofs.layout.Layout.plan.Goals as goal
 

@@ -1,6 +1,5 @@
-use Rattle.std.proofs.Common.{◌≡◌, refl, arith}
+use Rattle.sj_lower.proofs.Words.{arith, Placed, refl, ◌≡◌}
 use Rattle.sj_base.proofs.Options.{IfSome-at}
-use Rattle.sj_lower.specs.declared.rows.Placed.{Placed}
 use Rattle.sj_lower.proofs.Laying.{registers, registers-full}
 use Rattle.sj_lower.proofs.layout.Layout.register.Goals as goal
 

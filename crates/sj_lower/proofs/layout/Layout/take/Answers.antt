@@ -1,11 +1,6 @@
-use Rattle.std.proofs.Common.{◌≡◌, ◌∙◌, ◌++◌, List, length, map, sym, ap, arith, length-append}
+use Rattle.sj_lower.proofs.Words.{ap, arith, child, children_of, length, length-append, List, map, option_copied, Rect, rect_cell, sym, ◌++◌, ◌∙◌, ◌≡◌}
 use Rattle.std.proofs.lemmas.List.{length-map}
-use Rattle.std.specs.Option.{option_copied}
-use Rattle.sj_plan.specs.declared.rect.Rect.{Rect}
-use Rattle.sj_plan.specs.Rect.{child, children_of}
-use Rattle.sj_lower.specs.Cells.{rect_cell}
-use Rattle.sj_lower.proofs.Laying.{lays-old, lays-new, lays-full}
-use Rattle.sj_lower.proofs.Places.{length-places}
+use Rattle.sj_lower.proofs.{Laying.lays-full, Laying.lays-new, Laying.lays-old, Places.length-places}
 use Rattle.sj_lower.proofs.layout.Layout.take.Goals as goal
 
 pub returns-in-Some-clause-taken : goal.returns-in-Some-clause-taken

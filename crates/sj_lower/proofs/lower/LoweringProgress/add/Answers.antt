@@ -1,5 +1,4 @@
-use Rattle.std.proofs.Common.{refl, subst}
-use Rattle.sj_lower.specs.Adds.{IsFull}
+use Rattle.sj_lower.proofs.Words.{IsFull, refl, subst}
 use Rattle.sj_lower.proofs.lower.LoweringProgress.add.Goals as goal
 
 pub add-requires : goal.add-requires

@@ -1,4 +1,4 @@
-use Rattle.std.proofs.Common.{vec_len}
+use Rattle.sj_lower.proofs.Words.{vec_len}
 use Rattle.sj_lower.proofs.Going.{closes-all}
 use Rattle.sj_lower.proofs.lower.LoweringProgress.close_last.Goals as goal
 

@@ -1,7 +1,5 @@
-use Rattle.std.proofs.Common.{sym, subst}
+use Rattle.sj_lower.proofs.Words.{AddsAct, HasNext, IsFull, KeptAct, subst, sym}
 use Rattle.sj_base.proofs.Results.{handed}
-use Rattle.sj_meaning.specs.declared.job.Act.{Act as KeptAct}
-use Rattle.sj_lower.specs.Adds.{HasNext, AddsAct, IsFull}
 use Rattle.sj_lower.proofs.steps.Steps.add.Goals as goal
 
 pub register-requires : goal.register-requires

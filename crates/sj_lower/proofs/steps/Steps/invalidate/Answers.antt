@@ -1,12 +1,7 @@
-use Rattle.std.proofs.Common.{refl, subst, arith}
+use Rattle.sj_lower.proofs.Words.{arith, IsFull, OutOfMemory, Placed, refl, Steps, subst, Table}
 use Rattle.sj_base.proofs.Results.{handed}
+use Rattle.sj_lower.proofs.Statements.{active-room, Closes, has-active, has-phases, invalidate-adds}
 use Rattle.sj_meaning.specs.declared.job.Act.TheVariants as kept
-use Rattle.sj_meaning.specs.Table.{Table}
-use Rattle.sj_lower.specs.declared.contributions.StepRefusal.TheVariants.{OutOfMemory}
-use Rattle.sj_lower.specs.declared.rows.Placed.{Placed}
-use Rattle.sj_lower.specs.declared.steps.Steps.{Steps}
-use Rattle.sj_lower.specs.Adds.{IsFull}
-use Rattle.sj_lower.proofs.Statements.{has-phases, has-active, active-room, Closes, invalidate-adds}
 use Rattle.sj_lower.proofs.steps.Steps.invalidate.Goals as goal
 
 pub placed-placed-requires : goal.placed-placed-requires

@@ -1,4 +1,4 @@
-use Rattle.std.proofs.Common.{refl}
+use Rattle.sj_lower.proofs.Words.{refl}
 use Rattle.sj_lower.proofs.steps.Steps.nothing.Goals as goal
 
 pub returns-clause-at : goal.returns-clause-at

@@ -1,13 +1,8 @@
-use Rattle.std.proofs.Common.{◌≡◌, ◌∙◌, refl, sym, subst, arith}
+use Rattle.sj_lower.proofs.Words.{arith, Fits, Parts, Placed, refl, RootInfo, Steps, subst, sym, ◌∙◌, ◌≡◌}
 use Rattle.sj_base.proofs.Options.{IfSome-at}
-use Rattle.sj_plan.specs.declared.parts.Parts.{Parts}
-use Rattle.sj_plan.specs.Parts.{Fits}
-use Rattle.sj_meaning.specs.declared.job.Act.TheVariants as kept
-use Rattle.sj_meaning.specs.declared.job.RootInfo.{RootInfo}
 use Rattle.sj_phases.proofs.Doing.{has-after}
-use Rattle.sj_lower.specs.declared.rows.Placed.{Placed}
-use Rattle.sj_lower.specs.declared.steps.Steps.{Steps}
-use Rattle.sj_lower.proofs.Statements.{has-phases, active-fits, active-room, plan-lives, plan-named, plan-few, plan-has, plan-fits, plan-cells, plan-full, same-adds, bare-adds, pastes-adds}
+use Rattle.sj_lower.proofs.Statements.{active-fits, active-room, bare-adds, has-phases, pastes-adds, plan-cells, plan-few, plan-fits, plan-full, plan-has, plan-lives, plan-named, same-adds}
+use Rattle.sj_meaning.specs.declared.job.Act.TheVariants as kept
 use Rattle.sj_lower.proofs.steps.Steps.plan.Goals as goal
 
 pub info-requires : goal.info-requires

@@ -1,11 +1,8 @@
-use Rattle.std.proofs.Common.{◌≡◌, ◌∙◌, ◌+◌, ◌≤◌, Option, None, is_some, refl, sym, ap, arith}
+use Rattle.sj_lower.proofs.Words.{ap, arith, is_some, Line, most, None, Option, refl, Steps, sym, ◌+◌, ◌∙◌, ◌≡◌, ◌≤◌}
 use Rattle.std.proofs.lemmas.Bool.{false≢true}
-use Rattle.sj_base.specs.declared.ids.Line.{Line}
-use Rattle.sj_meaning.specs.declared.job.Act.TheVariants as kept
-use Rattle.sj_phases.specs.Expand.{most}
 use Rattle.sj_phases.proofs.Doing.{has-after, none-over}
-use Rattle.sj_lower.specs.declared.steps.Steps.{Steps}
-use Rattle.sj_lower.proofs.Statements.{has-phases, active-fits, active-room, print-has, print-named, print-few-after, delivers-adds}
+use Rattle.sj_lower.proofs.Statements.{active-fits, active-room, delivers-adds, has-phases, print-few-after, print-has, print-named}
+use Rattle.sj_meaning.specs.declared.job.Act.TheVariants as kept
 use Rattle.sj_lower.proofs.steps.Steps.print.Goals as goal
 
 pub placed-placed-requires : goal.placed-placed-requires

@@ -1,9 +1,7 @@
-use Rattle.std.proofs.Common.{◌≡◌, ◌<◌, ◌∙◌, Some, length, refl, arith}
-use Rattle.std.specs.Prelude.{set}
+use Rattle.sj_lower.proofs.Words.{active_at, arith, length, no_active, refl, set, Some, ◌<◌, ◌∙◌, ◌≡◌}
 use Rattle.std.proofs.lemmas.List.{get_or_default}
-use Rattle.sj_meaning.specs.declared.job.Act.TheVariants as kept
-use Rattle.sj_lower.specs.Follows.{active_at, no_active}
 use Rattle.sj_lower.proofs.Statements.{has-active, reduce-adds}
+use Rattle.sj_meaning.specs.declared.job.Act.TheVariants as kept
 use Rattle.sj_lower.proofs.steps.Steps.reduce.Goals as goal
 
 pub index_mut-requires : goal.index_mut-requires

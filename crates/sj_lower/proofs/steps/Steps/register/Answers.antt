@@ -1,7 +1,6 @@
-use Rattle.std.proofs.Common.{◌≡◌, length, refl, arith}
+use Rattle.sj_lower.proofs.Words.{arith, length, refl, Steps, ◌≡◌}
+use Rattle.sj_lower.proofs.Statements.{has-phases, placed-fits, placed-room, register-adds, register-count, register-few, register-fits, register-full, register-named, register-table, register-values}
 use Rattle.sj_meaning.specs.declared.job.Act.TheVariants as kept
-use Rattle.sj_lower.specs.declared.steps.Steps.{Steps}
-use Rattle.sj_lower.proofs.Statements.{has-phases, register-count, register-few, register-named, register-table, register-fits, register-values, placed-fits, placed-room, register-full, register-adds}
 use Rattle.sj_lower.proofs.steps.Steps.register.Goals as goal
 
 pub info-info-requires : goal.info-info-requires

@@ -1,19 +1,9 @@
-use Rattle.std.proofs.Common.{◌≡◌, ◌∙◌, All, List, ℕ, true, fold, map, refl, sym, ap, subst}
-use Rattle.std.specs.List.{filter}
-use Rattle.sj_base.specs.Mode.{is_redux}
-use Rattle.sj_base.proofs.Results.{handed}
-use Rattle.sj_meaning.specs.declared.job.Act.TheVariants as kept
+use Rattle.sj_lower.proofs.Words.{access_by, All, ap, CanOpen, cell_by, closed, Does, filter, fold, HasAt, is_contributed, is_other, is_redux, IsActiveChild, IsFull, List, lowered_task, map, OutOfMemory, refl, StepRefusal, Steps, subst, sym, Table, true, ℕ, ◌∙◌, ◌≡◌}
 use Rattle.sj_meaning.specs.declared.job.Operand.{Operand}
-use Rattle.sj_meaning.specs.Table.{Table}
-use Rattle.sj_phases.specs.Does.{HasAt, Does}
-use Rattle.sj_phases.specs.Expand.{closed}
+use Rattle.sj_base.proofs.Results.{handed}
 use Rattle.sj_phases.proofs.Doing.{has-after}
-use Rattle.sj_lower.specs.declared.contributions.StepRefusal.{StepRefusal}
-use Rattle.sj_lower.specs.declared.contributions.StepRefusal.TheVariants.{OutOfMemory}
-use Rattle.sj_lower.specs.declared.steps.Steps.{Steps}
-use Rattle.sj_lower.specs.Adds.{is_contributed, lowered_task, CanOpen, IsFull}
-use Rattle.sj_lower.specs.Follows.{IsActiveChild, cell_by, access_by, is_other}
-use Rattle.sj_lower.proofs.Tasking.{all-inside, all-can, actives-kept, still-has, task-full, task-goes}
+use Rattle.sj_lower.proofs.Tasking.{actives-kept, all-can, all-inside, still-has, task-full, task-goes}
+use Rattle.sj_meaning.specs.declared.job.Act.TheVariants as kept
 use Rattle.sj_lower.proofs.steps.Steps.task.Goals as goal
 
 pub close_operands-requires-clause-at : goal.close_operands-requires-clause-at

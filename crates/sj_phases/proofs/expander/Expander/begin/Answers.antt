@@ -1,9 +1,5 @@
-use Rattle.std.proofs.Common.{◌++◌, ◌∷◌, [], ℕ, List, ◌∙◌, sym, ap, subst, arith}
-use Rattle.sj_base.specs.declared.program.Lowered.{Lowered}
-use Rattle.sj_phases.specs.Does.{Does}
-use Rattle.sj_phases.specs.Expand.{begin_rows, with_own}
-use Rattle.sj_phases.specs.Rows.{copy_at, init_row, init_rows}
-use Rattle.sj_phases.proofs.Doing.{has-after, does-more, does-next, begin-valued, begin-unvalued}
+use Rattle.sj_phases.proofs.Words.{[], ap, arith, begin_rows, copy_at, Does, init_row, init_rows, List, Lowered, subst, sym, with_own, ℕ, ◌++◌, ◌∙◌, ◌∷◌}
+use Rattle.sj_phases.proofs.Doing.{begin-unvalued, begin-valued, does-more, does-next, has-after}
 use Rattle.sj_phases.proofs.expander.Expander.begin.Goals as goal
 
 pub push-requires : goal.push-requires

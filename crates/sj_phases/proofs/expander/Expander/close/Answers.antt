@@ -1,8 +1,6 @@
-use Rattle.std.proofs.Common.{None, Some, ◌∙◌, refl, sym}
+use Rattle.sj_phases.proofs.Words.{closed, combine_rows, None, refl, Some, sym, ◌∙◌}
 use Rattle.std.proofs.lemmas.Result.{on_ok_weaker}
-use Rattle.sj_phases.specs.Expand.{closed}
-use Rattle.sj_phases.specs.Rows.{combine_rows}
-use Rattle.sj_phases.proofs.Doing.{none-over, sets-at, sets-then, closed-is}
+use Rattle.sj_phases.proofs.Doing.{closed-is, none-over, sets-at, sets-then}
 use Rattle.sj_phases.proofs.expander.Expander.close.Goals as goal
 
 pub combine-requires-clause-at : goal.combine-requires-clause-at

@@ -1,8 +1,5 @@
-use Rattle.std.proofs.Common.{[], ℕ, subst, arith}
-use Rattle.sj_phases.specs.Does.{Does}
-use Rattle.sj_phases.specs.Expand.{with_own}
-use Rattle.sj_phases.specs.Rows.{copy_at, combine_row, combine_rows}
-use Rattle.sj_phases.proofs.Doing.{has-after, does-next}
+use Rattle.sj_phases.proofs.Words.{[], arith, combine_row, combine_rows, copy_at, Does, subst, with_own, ℕ}
+use Rattle.sj_phases.proofs.Doing.{does-next, has-after}
 use Rattle.sj_phases.proofs.expander.Expander.combine.Goals as goal
 
 pub push-requires : goal.push-requires

@@ -1,7 +1,4 @@
-use Rattle.std.proofs.Common.{[]}
-use Rattle.sj_phases.specs.Does.{Does}
-use Rattle.sj_phases.specs.Expand.{with_own}
-use Rattle.sj_phases.specs.Rows.{combine_rows}
+use Rattle.sj_phases.proofs.Words.{[], combine_rows, Does, with_own}
 use Rattle.sj_phases.proofs.expander.Expander.combine.Given as goal
 
 -- the copies of the workers so far are combined

@@ -1,4 +1,4 @@
-use Rattle.std.proofs.Common.{not, ap, sym}
+use Rattle.sj_phases.proofs.Words.{ap, not, sym}
 use Rattle.std.proofs.lemmas.Bool.{not-false}
 use Rattle.sj_phases.proofs.Doing.{closes-none, none-over}
 use Rattle.sj_phases.proofs.expander.Expander.has_open.Goals as goal

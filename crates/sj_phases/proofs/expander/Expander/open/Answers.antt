@@ -1,7 +1,6 @@
-use Rattle.std.proofs.Common.{None, Some, ◌∙◌, refl, sym}
+use Rattle.sj_phases.proofs.Words.{begin_rows, None, opened, phase_at, refl, Some, sym, ◌∙◌}
 use Rattle.std.proofs.lemmas.Result.{on_ok_weaker}
-use Rattle.sj_phases.specs.Expand.{begin_rows, opened, phase_at}
-use Rattle.sj_phases.proofs.Doing.{none-over, sets-at, sets-then, opened-is}
+use Rattle.sj_phases.proofs.Doing.{none-over, opened-is, sets-at, sets-then}
 use Rattle.sj_phases.proofs.expander.Expander.open.Goals as goal
 
 pub begin-requires-clause-at : goal.begin-requires-clause-at
