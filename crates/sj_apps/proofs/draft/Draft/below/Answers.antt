@@ -1,4 +1,4 @@
-use Rattle.std.proofs.Common.{arith, ne_eqb}
+use Rattle.std.proofs.Common.{refl, arith, ne_eqb}
 use Rattle.sj_apps.specs.Draft.{paths_names}
 use Rattle.sj_apps.proofs.Telling.{tells-other, task-told}
 use Rattle.sj_apps.proofs.draft.Draft.below.Goals as goal

@@ -1,4 +1,4 @@
-use Rattle.std.proofs.Common.{arith}
+use Rattle.std.proofs.Common.{refl, arith}
 use Rattle.sj_apps.specs.Draft.{paths_names}
 use Rattle.sj_apps.proofs.Telling.{task-told}
 use Rattle.sj_apps.proofs.draft.Draft.diagonal.Goals as goal
