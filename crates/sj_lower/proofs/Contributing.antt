@@ -1,16 +1,15 @@
 -- A task line with its contribution, in the program without phases: its child gets the unit first where it has no value.
 use Rattle.sj_lower.proofs.Words.{[], after_task, AllByRecursion, ap, AreLaid, arith, Array, Bool, by_number, Cell, cell_of, child_array, child_rect, child_unit, cond, Contents, contributed, Dims, dims_of, direct, each_of, false, filter, first_units, flat_map, fold, Handle, handle_at, has_value, HasTakenPlan, HaveCopies, held_in, init_row, inl, inr, is_redux, is_valued_child, IsPlacedAt, IsSoundTaskAt, Kernel, Laid, Least, length, length-append, Line, List, list_any, Mode, None, opening_for, Operand, operand_cell, Option, out, Parts, plain_rows, Plus, Program, rect_dims, Reduction, refl, root_at, RootState, run_task_at, seen_by, Some, subst, sym, task_block, task_row, TaskLine, true, unit_of, units, with_copies, zeros, ℕ, ◌++◌, ◌+◌, ◌∙◌, ◌∷◌, ◌≡◌}
-use Rattle.std.proofs.lemmas.{Bool.cases_Bool, Bool.false≢true, List.Elements.All-contains, List.Elements.All-filter, List.Elements.All-from_recursion, List.Elements.recursion_from_All}
+use Rattle.std.proofs.lemmas.{Bool.cases_Bool, Bool.false≢true, List.Elements.All-contains, List.Elements.All-from_recursion, List.Elements.recursion_from_All}
 use Rattle.sj_base.proofs.{Lists.each-weaker, Lists.map-agree, Numbers.none_more}
 use Rattle.sj_core.proofs.Readiness.{Contains-filter}
 use Rattle.sj_plan.proofs.Lists.{each-filter}
 use Rattle.sj_phases.proofs.Lists.{all-from}
-use Rattle.sj_lower.proofs.{Contents.contents-next, Contents.contents_before, Contents.first_worker, Contents.held-other, Contents.held-same, Contents.task_at, Copying.by_copies, Copying.copies-copied, Copying.IsNoCopy, Copying.laid-copied, Doing.cell-size, Doing.holds-task, Doing.IsReady, Doing.kernel_there, Doing.ready-held, Doing.the_cell, Folding.after_row, Folding.contents-rows, Folding.Stand, Folding.stand-append, Keeping.differs, Keeping.HasCells, Keeping.HaveRoots, Keeping.holds-later, Keeping.root-kept, Operands.Contributes, Operands.contributes-there, Operands.last-there, Operands.none-filter, Operands.one-unit, Operands.opening_by, Operands.placed-at, Operands.valued-at, Taken.cell-inside, Taken.cell-is, Taken.cells-apart}
+use Rattle.sj_lower.proofs.{Contents.contents-next, Contents.contents_before, Contents.first_worker, Contents.held-other, Contents.held-same, Contents.task_at, Copying.by_copies, Copying.copies-copied, Copying.IsNoCopy, Copying.laid-copied, Doing.cell-size, Doing.holds-task, Doing.IsReady, Doing.kernel_there, Doing.ready-held, Doing.the_cell, Folding.after_row, Folding.contents-rows, Folding.Stand, Folding.stand-append, Keeping.differs, Keeping.HasCells, Keeping.HaveRoots, Keeping.holds-later, Keeping.root-kept, Operands.Contributes, Operands.contributes-there, Operands.none-filter, Operands.one-unit, Operands.opening_by, Operands.placed-at, Operands.valued-at, Taken.cell-inside, Taken.cell-is, Taken.cells-apart}
 
--- ---- operands that are contributed to
-
-pub of_redux : (P : Operand ℕ → Type 0) (os : List (Operand ℕ)) → AllByRecursion P os → AllByRecursion (λ o. P o × (is_redux o.mode ≡ true)) (filter (λ o. is_redux o.mode) os)
-of_redux P os h = each-filter (λ (o : Operand ℕ). P o × (is_redux o.mode ≡ true)) (λ (o : Operand ℕ). is_redux o.mode) os (each-weaker P (λ (o : Operand ℕ). is_redux o.mode ≡ true → P o × (is_redux o.mode ≡ true)) (λ o p e. (p, e)) os h)
+-- what holds of each holds of those that pass
+pub each-kept : {X : Type 0} (P : X → Type 0) (p : X → Bool) (xs : List X) → AllByRecursion P xs → AllByRecursion P (filter p xs)
+each-kept P p xs h = each-filter P p xs (each-weaker P (λ x. p x ≡ true → P x) (λ x y e. y) xs h)
 
 -- ---- cells with partial copies more
 
@@ -94,28 +93,25 @@ module _ (has : Kernel → Bool) (q : Program) (D : Laid) (n : ℕ) (rs : List R
     abbrev c : Cell
     c = the_cell rs D u
 
-    placed : IsPlacedAt rs u
-    placed = placed-at has rs t s u (last-there con)
-
     -- what the contribution adds to
     seen : (v : Bool) → has_value rs u ≡ v → cond v (child_array r u.place) (child_unit r u.place) ≡ seen_by u.mode r u.place
     seen v e = sym (ap (λ (m : Mode). seen_by m r u.place) con.redux ∙ ap (λ b. cond b (child_array r u.place) (child_unit r u.place)) e)
 
     is_unit : unit_of out con.by (dims_of q c) ≡ child_unit r u.place
     is_unit =
-        ap (unit_of out con.by) (cell-size q D n (contents_before q n) rs u cells laid roots placed)
+        ap (unit_of out con.by) (cell-size q D n (contents_before q n) rs u cells laid roots con.placed)
         ∙ sym (ap (λ (o : Option Reduction). elim o as (λ _. Array) [ None ↦ zeros (rect_dims (child_rect r u.place)) | Some by ↦ unit_of out by (rect_dims (child_rect r u.place)) ]) con.reduction)
 
     by_valued : (v : Bool) → has_value rs u ≡ v → let ls = cond v [] (init_row con.by line c ∷ []) in Stand q n ls → AreUnits q D (n + length ls) rs (u ∷ [])
     by_valued true valued stand = subst (λ m. AreUnits q D m rs (u ∷ [])) (sym (none_more n)) (record {
       roots = roots;
-      ready = ((λ f. ((roots u.name placed.lives).held u.place placed.place valued).value ∙ seen true valued), tt);
+      ready = ((λ f. ((roots u.name con.placed.lives).held u.place con.placed.place valued).value ∙ seen true valued), tt);
     })
     by_valued false blank stand =
         let unit = unit_of out con.by (dims_of q c) in
         let left : contents_before q (n + 1) ≡ (c, unit) ∷ contents_before q n = contents-rows q n (init_row con.by line c ∷ []) stand ∙ after-init q (contents_before q n) con.by line c in
         record {
-          roots = subst (λ k. HaveRoots q D (n + 1) k rs) (sym left) (holds-later q D n (n + 1) ((c, unit) ∷ contents_before q n) rs (omega arith) (holds-blank q D n (contents_before q n) rs u unit laid roots placed blank));
+          roots = subst (λ k. HaveRoots q D (n + 1) k rs) (sym left) (holds-later q D n (n + 1) ((c, unit) ∷ contents_before q n) rs (omega arith) (holds-blank q D n (contents_before q n) rs u unit laid roots con.placed blank));
           ready = ((λ f. ap (λ k. held_in q k c) left ∙ held-same q c unit (contents_before q n) ∙ is_unit ∙ seen false blank), tt);
         }
 
@@ -163,7 +159,7 @@ roots-task has q C n rs t line s laid copies roots cells stand =
     D = Contributed q.workers rs C t
 
     placed : AllByRecursion (IsPlacedAt rs) (contributed t)
-    placed = recursion_from_All (IsPlacedAt rs) (contributed t) (All-filter (λ (o : Operand ℕ). is_redux o.mode) (IsPlacedAt rs) t.operands (All-from_recursion (IsPlacedAt rs) t.operands s.placed))
+    placed = each-kept (IsPlacedAt rs) (λ o. is_redux o.mode) t.operands s.placed
 
     laid_after : AreLaid D
     laid_after = (laid-contributed q C n (contents_before q n) rs (contributed t) laid copies roots placed).0

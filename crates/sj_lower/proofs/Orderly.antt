@@ -1,5 +1,5 @@
 -- The block of a statement has what expanding it needs, by the roots' numbers.
-use Rattle.sj_lower.proofs.Words.{[], a_delivery, Access, access_of, All, AllByRecursion, ap, AreLaid, AreOpenings, arith, Bool, by_number, Cell, cell_info, cell_of, clashes_at, closing, cond, Contains, Contents, ContributesTo, count_by, data_operands, Deliver, deliver_row, Delivery, Dims, each_of, false, filter, first_copy_in, flat_map, fold, get_or, HasTakenPlan, HaveCopies, info_at, Init, inl, inr, is_data, is_first, is_other_access, is_read_only, is_redux, is_scratch, is_some, is_valued_child, IsCopyOf, IsDelivered, IsOrderly, IsOrderlyTask, IsPasteBetween, IsPlace, IsPlacedAt, IsPlain, IsSoundTaskAt, Kernel, kernel_of, Laid, length, Line, List, list_any, load_rows, Lowered, Mode, nat_eq, nat_le, nat_lt, no_task, None, not, open_at, opening_for, OpenReductions, Operand, operand_cell, Option, Parts, Paste, paste_row, pastes_of, pastes_to, PhaseOpening, places, print_block, Program, R, range_with_len, Reduction, Redux, refl, root_at, RootState, RW, same_cell, shut_by, Some, subst, sym, task_block, task_row, TaskBlock, TaskLine, true, unwrap_or, W, with_opening, with_shut, Worker, zip, ℕ, ◌+◌, ◌<◌, ◌∙◌, ◌∷◌, ◌≡◌}
+use Rattle.sj_lower.proofs.Words.{[], a_delivery, Access, access_of, All, AllByRecursion, ap, AreLaid, AreOpenings, arith, Bool, by_number, Cell, cell_info, cell_of, clashes_at, closing, cond, Contains, Contents, ContributesTo, count_by, data_operands, Deliver, deliver_row, Delivery, Dims, each_of, false, filter, first_copy_in, flat_map, fold, get_or, HasTakenPlan, HaveCopies, info_at, Init, inl, inr, is_data, is_first, is_other_access, is_read_only, is_redux, is_scratch, is_some, is_valued_child, IsCopyOf, IsDelivered, IsOrderly, IsOrderlyTask, IsPasteBetween, IsPlace, IsPlain, IsSoundTaskAt, Kernel, kernel_of, Laid, length, Line, List, list_any, load_rows, Lowered, Mode, nat_eq, nat_le, nat_lt, no_task, None, not, open_at, opening_for, OpenReductions, Operand, operand_cell, Option, Parts, Paste, paste_row, pastes_of, pastes_to, PhaseOpening, places, print_block, Program, R, range_with_len, Reduction, Redux, refl, root_at, RootState, RW, same_cell, shut_by, Some, subst, sym, task_block, task_row, TaskBlock, TaskLine, true, unwrap_or, W, with_opening, with_shut, Worker, zip, ℕ, ◌+◌, ◌<◌, ◌∙◌, ◌∷◌, ◌≡◌}
 use Rattle.sj_core.specs.Proper.{access}
 use Rattle.std.proofs.lemmas.{Bool.and_from, Bool.cond_both, Bool.false_from_ne_true, Bool.false≢true, Bool.le-leb, Bool.lt-ltb, Bool.not-true, List.Elements.All-contains, List.Elements.All-filter, List.Elements.All-from_recursion, List.Elements.All-map, List.Elements.All-weaker, List.Elements.Contains-get_or, List.FromFn.get_or-range_with_len, List.FromFn.length-range_with_len, List.get_or-map, List.length-map, List.map-id}
 use Rattle.sj_base.proofs.{Bools.tally, Lists.each-weaker, Numbers.none_first}
@@ -157,9 +157,6 @@ module _ (p : Program) (D : Laid) (n : ℕ) (k : Contents) (rs : List RootState)
     abbrev c : Cell
     c = the_cell rs D u
 
-    placed : IsPlacedAt rs u
-    placed = placed-at set rs t s u (last-there con)
-
     one_open : open_at was b ≡ with_opening (shut_by was b) (opening_by con D)
     one_open = ap (fold with_opening (shut_by was b)) (one-opens con D)
 
@@ -171,7 +168,7 @@ module _ (p : Program) (D : Laid) (n : ℕ) (k : Contents) (rs : List RootState)
         let unread = λ (r : is_read_only u.mode ≡ true). false≢true (ap is_read_only (sym con.redux) ∙ r) in
         elim (AllPairs-two (λ (v w : Operand ℕ). clashes_at v w ≡ false) t.operands o u (none-clash t.operands s.apart) h (last-there con)) [
           | inl one ↦ false≢true (sym direct ∙ ap (λ (x : Operand ℕ). is_redux x.mode) one ∙ ap is_redux con.redux)
-          | inr clear ↦ elim clear [ inl e ↦ unread (both-read p D n k rs o u laid has its placed e (sym same)).1 | inr e ↦ unread (both-read p D n k rs u o laid has placed its e same).0 ]
+          | inr clear ↦ elim clear [ inl e ↦ unread (both-read p D n k rs o u laid has its con.placed e (sym same)).1 | inr e ↦ unread (both-read p D n k rs u o laid has con.placed its e same).0 ]
         ]))
 
     gives : Contains l.accesses (access Redux c)
@@ -193,10 +190,10 @@ module _ (p : Program) (D : Laid) (n : ℕ) (k : Contents) (rs : List RootState)
     goes_on : (by : Reduction) → shut_by was b c ≡ Some by → ((opening_by con D).valued ≡ true) × (con.by ≡ by)
     goes_on by e =
         let child = opened c by (shut-less b.closes was c by e) in
-        let r = has u.name placed.lives in
-        let w = has child.number child.lives in
-        let one = cells-apart D child.number u.name (root_at rs child.number).dims (root_at rs u.name).dims (root_at rs child.number).parts (root_at rs u.name).parts w.first r.first child.place u.place laid w.taken r.taken child.inside placed.place (sym child.is) in
-        (sym ((λ i. is_valued_child (root_at rs (one.0 i)) (one.2 i))) ∙ child.valued, some_is con.by by (sym con.reduction ∙ ap (λ m. (root_at rs m).reduction) (sym one.0) ∙ child.reduction))
+        let r = has u.name con.placed.lives in
+        let w = has child.number child.at.lives in
+        let one = cells-apart D child.number u.name (root_at rs child.number).dims (root_at rs u.name).dims (root_at rs child.number).parts (root_at rs u.name).parts w.first r.first child.place u.place laid w.taken r.taken child.at.inside con.placed.place (sym child.at.is) in
+        (sym ((λ i. is_valued_child (root_at rs (one.0 i)) (one.2 i))) ∙ child.at.valued, some_is con.by by (sym con.reduction ∙ ap (λ m. (root_at rs m).reduction) (sym one.0) ∙ child.at.reduction))
 
     pub orderly-gift : IsOrderly p was b
     orderly-gift = record {

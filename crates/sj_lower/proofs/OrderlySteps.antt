@@ -2,7 +2,7 @@
 use Rattle.sj_lower.proofs.Words.{[], Act, active_cells, ap, AreLaid, arith, Bool, by_number, cell_of, closing, cond, Contains, contributed, Dims, each_of, first_copy_in, fold, info_at, inl, inr, Invalidates, is_redux, is_valued, IsOrderly, IsPlace, IsSoundAt, IsSoundRegistrationAt, IsSoundTaskAt, Kernel, Laid, length, Line, List, list_any, Lives, Lowered, None, OpenReductions, Operand, operand_cell, Option, Parts, paste_row, pastes_of, places, Plans, Prints, Program, Reduces, Reduction, refl, Register, Registers, root_at, RootState, same_parts, Some, step_of, subst, sym, take, TaskLine, Tasks, Unregisters, with_copies, with_handle, ℕ, ◌∙◌, ◌≡◌}
 use Rattle.std.proofs.lemmas.Bool.{cases_Bool, cond_both, false≢true}
 use Rattle.sj_core.proofs.Readiness.{Contains-map}
-use Rattle.sj_lower.proofs.{Agrees.Agrees, Agrees.AreOpenChildren, Contents.contents_before, Contributing.fold-handles, Contributing.roots-copied, Contributing.same-cells, Copying.copied-first, Doing.the_cell, Following.IsAt, Keeping.lives-below, Opens.child-moved, Opens.kept-cell, Opens.place-in, Opens.Takes, Opens.takes-planned, Opens.takes-registered, Operands.contributes-there, Operands.last-there, Operands.placed-at, Orderly.orderly-direct, Orderly.orderly-gift, Orderly.orderly-loads, Orderly.orderly-nothing, Orderly.orderly-pastes, Orderly.orderly-prints, Places.parts-itself, Stepping.keeps-step, Taken.cell-inside, Taken.cells-apart}
+use Rattle.sj_lower.proofs.{Agrees.Agrees, Contents.contents_before, Contributing.fold-handles, Contributing.roots-copied, Contributing.same-cells, Copying.copied-first, Doing.the_cell, Following.IsAt, Keeping.lives-below, Opens.copied-opens, Opens.kept-cell, Opens.place-in, Opens.Takes, Opens.takes-planned, Opens.takes-registered, Operands.contributes-there, Operands.last-there, Operands.placed-at, Orderly.orderly-direct, Orderly.orderly-gift, Orderly.orderly-loads, Orderly.orderly-nothing, Orderly.orderly-pastes, Orderly.orderly-prints, Places.parts-itself, Stepping.keeps-step, Taken.cell-inside, Taken.cells-apart}
 
 -- a child's cell on which no phase is open, where its plan is taken now: no open child is that of its root and plan
 not-open : (q : Program) (C D : Laid) (rs : List RootState) (n : ℕ) (was : OpenReductions) (m : ℕ) (d : Dims) (s : Parts) (place : ℕ × ℕ) → AreLaid D → Agrees q C rs n was → Takes C D m d s → IsPlace s place → ((i : ℕ) → Lives rs i → m ≡ i → s ≡ (root_at rs i).parts → ⊥) → was (cell_of D m s place) ≡ None
@@ -13,10 +13,10 @@ not-open q C D rs n was m d s place laid g t at none = by_option (was (cell_of D
     by_option (Some by) e =
         let h = g.opens (cell_of D m s place) by e in
         let r = root_at rs h.number in
-        let b = g.roots h.number h.lives in
+        let b = g.roots h.number h.at.lives in
         let kept = t.kept h.number r.dims r.parts b.first b.taken in
-        let one = cells-apart D m h.number d r.dims s r.parts t.first b.first place h.place laid t.own kept at h.inside (h.is ∙ kept-cell C D h.number r.dims r.parts b.first h.place b.taken kept) in
-        absurd (none h.number h.lives one.0 one.1)
+        let one = cells-apart D m h.number d r.dims s r.parts t.first b.first place h.place laid t.own kept at h.at.inside (h.at.is ∙ kept-cell C D h.number r.dims r.parts b.first h.place b.taken kept) in
+        absurd (none h.number h.at.lives one.0 one.1)
 
 module _ (has : Kernel → Bool) (q : Program) (C : Laid) (rs : List RootState) (n : ℕ) (was : OpenReductions) (line : Line) where
   registers : (r : Register ℕ) → IsSoundRegistrationAt rs r → IsAt q C rs n was (record { line = line; act = Registers r }) → IsOrderly q was (step_of q.workers (by_number rs) C line (Registers r)).block
@@ -52,7 +52,7 @@ module _ (has : Kernel → Bool) (q : Program) (C : Laid) (rs : List RootState) 
       let handles = fold-handles q.workers (each_of (operand_cell (by_number rs) C) (contributed t)) C in
       let k = keeps-step has q C n rs line (Tasks t) s g.laid g.copies g.roots g.counted at.cells at.stand in
       let roots = roots-copied q C D n (contents_before q n) rs handles g.roots in
-      let opened : AreOpenChildren D rs was = λ c by is. (let h = g.opens c by is in child-moved C D rs rs c by h refl (sym (same-cells C D handles h.number (root_at rs h.number).parts h.place))) in
+      let opened = copied-opens C D rs was handles g.opens in
       elim (cases_Bool (list_any (λ (o : Operand ℕ). is_redux o.mode) t.operands)) [
         | inl some ↦
             let con = contributes-there has rs t s some in

@@ -1,10 +1,10 @@
 -- Statement by statement the cells of the program without phases agree with the job's roots, by their numbers.
-use Rattle.sj_lower.proofs.Words.{[], access, Act, active_cells, ap, apply_at, area, AreLaid, arith, Bool, by_number, Cell, cell_of, change_at, child, closing, cond, Contents, contributed, deliver_row, Dims, direct, direct_mode, each_of, false, Fill, fill_row, get_or-set_other, get_or-set_same, HasTakenPlan, HaveCopies, Init, Invalidates, is_first, is_redux, is_valued, IsPlacedAt, IsSoundAt, Kernel, Laid, length, Line, List, Lives, load_row, load_rows, Lowered, Mode, no_root, no_values, None, Nothing, open_at, OpenReductions, Operand, operand_array_at, out, own_task, Parts, Paste, paste_arguments, paste_row, PasteKernel, pastes_of, places, plain_rows, plan_block, Plans, print_block, Prints, Program, R, Reduces, Reduction, refl, Registers, root_at, RootState, RW, same_parts, step_of, subst, sym, take, Tasks, true, Unregisters, Values, W, with_elements, with_handle, with_print, with_reduction, written_of, ℕ, ◌+◌, ◌∙◌, ◌∷◌, ◌≡◌}
+use Rattle.sj_lower.proofs.Words.{[], access, Act, active_cells, ap, apply_at, area, AreLaid, arith, Bool, by_number, Cell, cell_of, change_at, child, closing, cond, Contents, contributed, deliver_row, Dims, direct, direct_mode, each_of, false, Fill, fill_row, get_or-set_other, get_or-set_same, HasTakenPlan, HaveCopies, Init, Invalidates, is_first, is_redux, is_valued, IsPlacedAt, IsSoundAt, Kernel, Laid, length, Line, List, Lives, load_row, load_rows, Lowered, Mode, no_root, no_values, None, Nothing, open_at, OpenReductions, operand_array_at, out, own_task, Parts, Paste, paste_arguments, paste_row, PasteKernel, pastes_of, places, plain_rows, plan_block, Plans, print_block, Prints, Program, R, Reduces, Reduction, refl, Registers, root_at, RootState, RW, same_parts, step_of, subst, sym, take, Tasks, true, Unregisters, Values, W, with_elements, with_handle, with_print, with_reduction, written_of, ℕ, ◌+◌, ◌∙◌, ◌∷◌, ◌≡◌}
 use Rattle.std.proofs.Math.ListN.{set}
 use Rattle.std.proofs.lemmas.{Bool.cond_both, List.length-replicate, List.length-set, Simd.map-map}
-use Rattle.sj_base.proofs.{Lists.each-weaker, Numbers.none_more}
+use Rattle.sj_base.proofs.{Numbers.none_more}
 use Rattle.sj_meaning.proofs.Timely.{length-put}
-use Rattle.sj_lower.proofs.{Agrees.Agrees, Agrees.AreOpenChildren, Contents.contents_before, Contributing.fold-handles, Contributing.laid-contributed, Contributing.of_redux, Contributing.roots-copied, Contributing.roots-task, Copying.copies-as, Doing.the_cell, Elements.blank-child, Elements.no_values-blank, Filling.after_delivers, Folding.after_rows, Folding.contents-rows, Folding.Stand, Keeping.changed-beside, Keeping.changed-here, Keeping.HasCells, Keeping.HasRoot, Keeping.HaveRoots, Keeping.holds-changed, Keeping.holds-later, Keeping.lives-below, Starting.keeps-planned, Starting.keeps-registered, Starting.planned_rows, Taken.laid-as, Taken.taken-as}
+use Rattle.sj_lower.proofs.{Agrees.Agrees, Agrees.AreOpenChildren, Contents.contents_before, Contributing.fold-handles, Contributing.laid-contributed, Contributing.each-kept, Contributing.roots-copied, Contributing.roots-task, Copying.copies-as, Doing.the_cell, Elements.blank-child, Elements.no_values-blank, Filling.after_delivers, Folding.after_rows, Folding.contents-rows, Folding.Stand, Keeping.changed-beside, Keeping.changed-here, Keeping.HasCells, Keeping.HasRoot, Keeping.HaveRoots, Keeping.holds-changed, Keeping.holds-later, Keeping.lives-below, Starting.keeps-planned, Starting.keeps-registered, Starting.planned_rows, Taken.laid-as, Taken.taken-as}
 pub use Rattle.sj_lower.proofs.Starting.{Keeps}
 
 -- ---- the tasks that no task line names are what they are without phases
@@ -84,7 +84,7 @@ keeps-step has q C n rs line (Plans m p) s a copies roots counted cells stand =
 keeps-step has q C n rs line (Reduces m by) s a copies roots counted cells stand =
     keeps-idle q C (change_at (with_reduction by) m rs) n a copies (changed-roots q C n rs m (with_reduction by) s.0 roots (reduced-root q C n (contents_before q n) m (root_at rs m) by)) (counted ∙ sym (length-set rs m (with_reduction by (root_at rs m))))
 keeps-step has q C n rs line (Tasks t) s a copies roots counted cells stand =
-    let placed = each-weaker (λ (u : Operand ℕ). IsPlacedAt rs u × (is_redux u.mode ≡ true)) (IsPlacedAt rs) (λ u h. h.0) (contributed t) (of_redux (IsPlacedAt rs) t.operands s.placed) in
+    let placed = each-kept (IsPlacedAt rs) (λ o. is_redux o.mode) t.operands s.placed in
     let laid = laid-contributed q C n (contents_before q n) rs (contributed t) a copies roots placed in
     record {
       laid = laid.0;
