@@ -1,11 +1,11 @@
 -- A task line with its contribution, in the program without phases: its child gets the unit first where it has no value.
-use Rattle.sj_lower.proofs.Words.{[], after_task, AllByRecursion, ap, AreLaid, arith, Array, Bool, by_number, Cell, cell_of, child_array, child_rect, child_unit, cond, Contents, contributed, Dims, dims_of, direct, each_of, false, filter, first_units, flat_map, fold, Handle, handle_at, has_value, HasTakenPlan, HaveCopies, held_in, init_row, inl, inr, is_redux, is_valued_child, IsPlacedAt, IsSoundTaskAt, Kernel, Laid, Least, length, length-append, Line, List, list_any, Mode, None, opening_for, Operand, operand_cell, Option, out, Parts, plain_rows, Plus, Program, rect_dims, Reduction, refl, root_at, RootState, run_task_at, seen_by, Some, subst, sym, task_block, task_row, TaskLine, true, unit_of, units, with_copies, zeros, ℕ, ◌++◌, ◌+◌, ◌∙◌, ◌∷◌, ◌≡◌}
+use Rattle.sj_lower.proofs.Words.{[], after_task, AllByRecursion, ap, AreLaid, arith, Array, Bool, by_number, Cell, cell_of, child_array, child_rect, child_unit, cond, Contents, contributed, dims_of, direct, each_of, false, filter, first_units, flat_map, fold, Handle, handle_at, has_value, HaveCopies, held_in, init_row, inl, inr, is_redux, is_valued_child, IsPlacedAt, IsSoundTaskAt, Kernel, Laid, Least, length, length-append, Line, List, list_any, Mode, None, opening_for, Operand, Option, out, Parts, plain_rows, Plus, Program, rect_dims, Reduction, refl, root_at, RootState, run_task_at, seen_by, Some, subst, sym, task_block, task_row, TaskLine, true, unit_of, units, with_copies, zeros, ℕ, ◌++◌, ◌+◌, ◌∙◌, ◌∷◌, ◌≡◌}
 use Rattle.std.proofs.lemmas.{Bool.cases_Bool, Bool.false≢true, List.Elements.All-contains, List.Elements.All-from_recursion, List.Elements.recursion_from_All}
 use Rattle.sj_base.proofs.{Lists.each-weaker, Lists.map-agree, Numbers.none_more}
 use Rattle.sj_core.proofs.Readiness.{Contains-filter}
 use Rattle.sj_plan.proofs.Lists.{each-filter}
 use Rattle.sj_phases.proofs.Lists.{all-from}
-use Rattle.sj_lower.proofs.{Contents.contents-next, Contents.contents_before, Contents.first_worker, Contents.held-other, Contents.held-same, Contents.task_at, Copying.by_copies, Copying.copies-copied, Copying.IsNoCopy, Copying.laid-copied, Doing.cell-size, Doing.holds-task, Doing.IsReady, Doing.kernel_there, Doing.ready-held, Doing.the_cell, Folding.after_row, Folding.contents-rows, Folding.Stand, Folding.stand-append, Keeping.differs, Keeping.HasCells, Keeping.HaveRoots, Keeping.holds-later, Keeping.root-kept, Operands.Contributes, Operands.contributes-there, Operands.none-filter, Operands.one-unit, Operands.opening_by, Operands.placed-at, Operands.valued-at, Taken.cell-inside, Taken.cell-is, Taken.cells-apart}
+use Rattle.sj_lower.proofs.{Contents.contents-next, Contents.contents_before, Contents.first_worker, Contents.held-other, Contents.held-same, Contents.task_at, Copying.by_copies, Copying.copies-copied, Copying.IsNoCopy, Copying.laid-copied, Doing.cell-size, Doing.holds-task, Doing.IsReady, Doing.kernel_there, Doing.ready-held, Doing.the_cell, Folding.after_row, Folding.contents-rows, Folding.Stand, Folding.stand-append, Keeping.differs, Keeping.HasCells, Keeping.HaveRoots, Keeping.holds-later, Keeping.root-kept, Operands.Contributes, Operands.contributes-there, Operands.none-filter, Operands.one-unit, Operands.opening_by, Operands.placed-at, Operands.valued-at, Taken.cell-inside, Taken.cell-is, Taken.cells-apart, Taken.taken-as}
 
 -- what holds of each holds of those that pass
 pub each-kept : {X : Type 0} (P : X → Type 0) (p : X → Bool) (xs : List X) → AllByRecursion P xs → AllByRecursion P (filter p xs)
@@ -24,16 +24,11 @@ fold-handles workers (c ∷ cs) C = fold-handles workers cs (with_copies workers
 pub same-cells : (C D : Laid) → D.handles ≡ C.handles → (m : ℕ) (s : Parts) (place : ℕ × ℕ) → cell_of D m s place ≡ cell_of C m s place
 same-cells C D e m s place = ap (λ (hs : List Handle). let E : Laid = record { rows = D.rows; handles = hs; prints = D.prints } in cell_of E m s place) e
 
-same-taken : (C D : Laid) → D.handles ≡ C.handles → (m : ℕ) (d : Dims) (s : Parts) (f : ℕ) → HasTakenPlan C m d s f → HasTakenPlan D m d s f
-same-taken C D e m d s f t =
-    let at : (hs : List Handle) → Laid = λ hs. record { rows = D.rows; handles = hs; prints = D.prints } in
-    record { dims = ap (λ hs. (handle_at (at hs) m).dims) e ∙ t.dims; first = ap (λ hs. (handle_at (at hs) m).first s) e ∙ t.first }
-
 -- roots hold what they held where cells only got partial copies
 pub roots-copied : (q : Program) (C D : Laid) (n : ℕ) (k : Contents) (rs : List RootState) → D.handles ≡ C.handles → HaveRoots q C n k rs → HaveRoots q D n k rs
 roots-copied q C D n k rs e has m lives =
     let b = has m lives in
-    root-kept q C D n n k k m (root_at rs m) b (same-taken C D e m (root_at rs m).dims (root_at rs m).parts b.first b.taken) (omega arith) (λ place inside. refl)
+    root-kept q C D n n k k m (root_at rs m) b (taken-as C D m m (root_at rs m).dims (root_at rs m).parts b.first (ap (λ hs. handle_at (record { rows = D.rows; handles = hs; prints = D.prints }) m) e) b.taken) (omega arith) (λ place inside. refl)
 
 -- the cells of the contributed operands, with their partial copies; the cell of a child is none of these
 pub laid-contributed : (q : Program) (C : Laid) (n : ℕ) (k : Contents) (rs : List RootState) (us : List (Operand ℕ)) → AreLaid C → HaveCopies q.workers C → HaveRoots q C n k rs → AllByRecursion (IsPlacedAt rs) us
@@ -135,34 +130,14 @@ module _ (has : Kernel → Bool) (q : Program) (D : Laid) (n : ℕ) (rs : List R
     | inr e ↦ ready-held q D m (contents_before q m) rs o left.roots (placed-at has rs t s o h) (valued-at has rs t s o h) e
   ]))
 
--- ---- the task line
-
--- the cells after a task line
-abbrev pub Contributed : ℕ → List RootState → Laid → TaskLine ℕ → Laid
-Contributed workers rs C t = fold (with_copies workers) C (each_of (operand_cell (by_number rs) C) (contributed t))
-
--- the roots after the tasks of a task line
-pub roots-task : (has : Kernel → Bool) (q : Program) (C : Laid) (n : ℕ) (rs : List RootState) (t : TaskLine ℕ) (line : Line) → IsSoundTaskAt has rs t → AreLaid C → HaveCopies q.workers C → HaveRoots q C n (contents_before q n) rs
-    → let D = Contributed q.workers rs C t in let ls = plain_rows (task_block (by_number rs) D t line) in HasCells q D → Stand q n ls → HaveRoots q D (n + length ls) (contents_before q (n + length ls)) (run_task_at t rs)
-roots-task has q C n rs t line s laid copies roots cells stand =
-    let us = units (task_block (by_number rs) D t line) in
-    let row = direct (task_row (by_number rs) D t line) in
-    let parts = stand-append q n us (row ∷ []) stand in
-    let left = all-units has q D n rs t line s cells laid_after roots_after parts.0 in
-    let ready = all-ready has q D n rs t line s cells laid_after roots_after (n + length us) left in
-    let ran = holds-task has q D (n + length us) (contents_before q (n + length us)) rs t line cells laid_after left.roots s ready parts.1.0 in
-    let longer : n + length (us ++ row ∷ []) ≡ (n + length us) + 1 = omega (arith, length-append us (row ∷ [])) in
-    subst (λ k. HaveRoots q D (n + length (us ++ row ∷ [])) k (run_task_at t rs)) (sym (contents-next q (n + length us) (n + length (us ++ row ∷ [])) longer))
-    (subst (λ m. HaveRoots q D m (after_task out q first_worker (task_at (n + length us)) (contents_before q (n + length us))) (run_task_at t rs)) (sym longer) ran)
-  where
-    D : Laid
-    D = Contributed q.workers rs C t
-
-    placed : AllByRecursion (IsPlacedAt rs) (contributed t)
-    placed = each-kept (IsPlacedAt rs) (λ o. is_redux o.mode) t.operands s.placed
-
-    laid_after : AreLaid D
-    laid_after = (laid-contributed q C n (contents_before q n) rs (contributed t) laid copies roots placed).0
-
-    roots_after : HaveRoots q D n (contents_before q n) rs
-    roots_after = roots-copied q C D n (contents_before q n) rs (fold-handles q.workers (each_of (the_cell rs C) (contributed t)) C) roots
+  -- the roots after the tasks of a task line
+  pub roots-task : let ls = plain_rows (task_block (by_number rs) D t line) in Stand q n ls → HaveRoots q D (n + length ls) (contents_before q (n + length ls)) (run_task_at t rs)
+  roots-task stand =
+      let us = units (task_block (by_number rs) D t line) in
+      let row = direct (task_row (by_number rs) D t line) in
+      let parts = stand-append q n us (row ∷ []) stand in
+      let left = all-units parts.0 in
+      let ran = holds-task has q D (n + length us) (contents_before q (n + length us)) rs t line cells laid left.roots s (all-ready (n + length us) left) parts.1.0 in
+      let longer : n + length (us ++ row ∷ []) ≡ (n + length us) + 1 = omega (arith, length-append us (row ∷ [])) in
+      subst (λ k. HaveRoots q D (n + length (us ++ row ∷ [])) k (run_task_at t rs)) (sym (contents-next q (n + length us) (n + length (us ++ row ∷ [])) longer))
+      (subst (λ m. HaveRoots q D m (after_task out q first_worker (task_at (n + length us)) (contents_before q (n + length us))) (run_task_at t rs)) (sym longer) ran)

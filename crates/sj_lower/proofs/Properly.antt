@@ -3,7 +3,7 @@ use Rattle.sj_lower.proofs.Words.{[], Access, All, ap, apply_at, area, AreOpenin
 use Rattle.sj_core.specs.Proper.{access}
 use Rattle.std.proofs.lemmas.{Bool.cases_lt, Bool.cond_both, Bool.false≢true, List.Elements.All-append, List.Elements.All-cons, List.Elements.All-contains, List.Elements.All-from_get_or, List.Elements.All-get_or, List.Elements.All-map, List.Elements.All-nil, List.Elements.All-weaker, List.get_or_past}
 use Rattle.sj_phases.proofs.Good.{direct-redux}
-use Rattle.sj_lower.proofs.{Agrees.Agrees, Contents.task_at, Folding.Stand, Following.AllAgree, Following.laid_from, Following.rows_from, Good.AreGood, Good.good-append, Good.good-at, Good.IsGood, Goods.goods-step, Orderly.first-of, OrderlySteps.orderly-step}
+use Rattle.sj_lower.proofs.{Agrees.Agrees, Contents.task_at, Folding.Stand, Following.AllAgree, Following.laid_from, Following.rows_from, Good.AreGood, Good.good-append, Good.good-at, Good.IsGood, Orderly.first-of, OrderlySteps.fine-step, Stepping.keeps-step}
 
 -- ---- cells that tasks without phases access
 
@@ -36,22 +36,20 @@ abbrev pub blocks_from : ℕ → List RootState → Laid → List (Statement ℕ
 blocks_from workers rs C ss = each_of (λ (x : LoweringStep). x.block) (steps_from workers by_number apply_at rs C ss)
 
 module _ (has : Kernel → Bool) (q : Program) where
-  pub orderly-all : (ss : List (Statement ℕ)) (C : Laid) (rs : List RootState) (n : ℕ) (was : OpenReductions) → AreSoundAt has rs ss → AllAgree q C rs n was ss → AreOrderly q was (blocks_from q.workers rs C ss)
-  orderly-all [] C rs n was sound all = tt
-  orderly-all (s ∷ ss) C rs n was sound all =
-      let x = step_of q.workers (by_number rs) C s.line s.act in
-      (orderly-step has q C rs n was s.line s.act sound.0 all.0, orderly-all ss x.laid (apply_at s.act rs) (n + length (plain_rows x.block)) (open_at was x.block) sound.1 all.1)
-
   -- each task is good, and so are its accesses
-  goods-all : (ss : List (Statement ℕ)) (C : Laid) (rs : List RootState) (n : ℕ) (was : OpenReductions) → AreSoundAt has rs ss → AllAgree q C rs n was ss → AreGood q n (rows_from q.workers rs C ss) × All (AreOrdinary q) (rows_from q.workers rs C ss)
-  goods-all [] C rs n was sound all = (tt, All-nil (AreOrdinary q))
-  goods-all (s ∷ ss) C rs n was sound all =
+  steps-all : (ss : List (Statement ℕ)) (C : Laid) (rs : List RootState) (n : ℕ) (was : OpenReductions) → AreSoundAt has rs ss → AllAgree q C rs n was ss → AreOrderly q was (blocks_from q.workers rs C ss) × AreGood q n (rows_from q.workers rs C ss) × All (AreOrdinary q) (rows_from q.workers rs C ss)
+  steps-all [] C rs n was sound all = (tt, tt, All-nil (AreOrdinary q))
+  steps-all (s ∷ ss) C rs n was sound all =
+      let g = all.0.agrees in
       let x = step_of q.workers (by_number rs) C s.line s.act in
       let later = rows_from q.workers (apply_at s.act rs) x.laid ss in
-      let rest = goods-all ss x.laid (apply_at s.act rs) (n + length (plain_rows x.block)) (open_at was x.block) sound.1 all.1 in (
-        good-append q n (plain_rows x.block) later (goods-step has q C rs n was s.line s.act sound.0 all.0) rest.0,
-        All-append (AreOrdinary q) (plain_rows x.block) later (ordinary-block q was x.block (orderly-step has q C rs n was s.line s.act sound.0 all.0)) rest.1,
-      )
+      let k = keeps-step has q C n rs s.line s.act sound.0 g.laid g.copies g.roots g.counted all.0.cells all.0.stand in
+      let fine = fine-step has q C rs n was s.line s.act sound.0 all.0 k in
+      let rest = steps-all ss x.laid (apply_at s.act rs) (n + length (plain_rows x.block)) (open_at was x.block) sound.1 all.1 in
+      ((fine.1, rest.0), good-append q n (plain_rows x.block) later fine.0 rest.1, All-append (AreOrdinary q) (plain_rows x.block) later (ordinary-block q was x.block fine.1) rest.2)
+
+  pub orderly-all : (ss : List (Statement ℕ)) (C : Laid) (rs : List RootState) (n : ℕ) (was : OpenReductions) → AreSoundAt has rs ss → AllAgree q C rs n was ss → AreOrderly q was (blocks_from q.workers rs C ss)
+  orderly-all ss C rs n was sound all = (steps-all ss C rs n was sound all).0
 
 -- at the end
 pub agrees-end : (q : Program) (ss : List (Statement ℕ)) (C : Laid) (rs : List RootState) (n : ℕ) (was : OpenReductions) → AllAgree q C rs n was ss → (new : List RootState) × (m : ℕ) × (opens : OpenReductions) × Agrees q (laid_from q.workers rs C ss) new m opens
@@ -72,7 +70,7 @@ module _ (has : Kernel → Bool) (q : Program) (ss : List (Statement ℕ)) (C : 
   copies = end.3.copies
 
   goods : AreGood q 0 (rows_from q.workers rs C ss) × All (AreOrdinary q) (rows_from q.workers rs C ss)
-  goods = goods-all has q ss C rs 0 was sound all
+  goods = let x = steps-all has q ss C rs 0 was sound all in (x.1, x.2)
 
   good : (n : ℕ) → n < length q.tasks → IsGood q n (task_of q (task_at n))
   good n lt = good-at q 0 (rows_from q.workers rs C ss) n goods.0 stand (omega arith) (subst (λ (ts : List Lowered). n < 0 + length ts) tasks (omega (arith, lt)))
