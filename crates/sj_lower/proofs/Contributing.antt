@@ -1,11 +1,11 @@
 -- A task line with its contribution, in the program without phases: its child gets the unit first where it has no value.
-use Rattle.sj_lower.proofs.Words.{[], after_task, AllByRecursion, ap, AreLaid, arith, Array, Bool, by_number, Cell, cell_of, child_array, child_rect, child_unit, cond, Contents, contributed, dims_of, direct, each_of, false, filter, first_units, flat_map, fold, Handle, handle_at, has_value, HaveCopies, held_in, init_row, inl, inr, is_redux, is_valued_child, IsPlacedAt, IsSoundTaskAt, Kernel, Laid, Least, length, length-append, Line, List, list_any, Mode, None, opening_for, Operand, Option, out, Parts, plain_rows, Plus, Program, rect_dims, Reduction, refl, root_at, RootState, run_task_at, seen_by, Some, subst, sym, task_block, task_row, TaskLine, true, unit_of, units, with_copies, zeros, ℕ, ◌++◌, ◌+◌, ◌∙◌, ◌∷◌, ◌≡◌}
+use Rattle.sj_lower.proofs.Words.{[], after_task, AllByRecursion, ap, AreLaid, arith, Array, Bool, by_number, Cell, cell_of, child_array, child_rect, child_unit, cond, Contents, contributed, dims_of, direct, each_of, false, filter, first_units, flat_map, fold, Handle, handle_at, has_value, HaveCopies, held_in, init_row, inl, inr, is_redux, is_valued_child, IsPlacedAt, IsSoundTaskAt, Kernel, Laid, Least, length, length-append, Line, List, list_any, Mode, None, opening_for, Operand, Option, out, Parts, Plus, Program, rect_dims, Reduction, refl, root_at, RootState, run_task_at, seen_by, Some, subst, sym, task_block, task_row, TaskLine, true, unit_of, units, with_copies, zeros, ℕ, ◌++◌, ◌+◌, ◌∙◌, ◌∷◌, ◌≡◌, gives_value, HasValueBefore, init_of, Lowered, Contains}
 use Rattle.std.proofs.lemmas.{Bool.cases_Bool, Bool.false≢true, List.Elements.All-contains, List.Elements.All-from_recursion, List.Elements.recursion_from_All}
 use Rattle.sj_base.proofs.{Lists.each-weaker, Lists.map-agree, Numbers.none_more}
 use Rattle.sj_core.proofs.Readiness.{Contains-filter}
 use Rattle.sj_plan.proofs.Lists.{each-filter}
 use Rattle.sj_phases.proofs.Lists.{all-from}
-use Rattle.sj_lower.proofs.{Contents.contents-next, Contents.contents_before, Contents.first_worker, Contents.held-other, Contents.held-same, Contents.task_at, Copying.by_copies, Copying.copies-copied, Copying.IsNoCopy, Copying.laid-copied, Doing.cell-size, Doing.holds-task, Doing.IsReady, Doing.kernel_there, Doing.ready-held, Doing.the_cell, Folding.after_row, Folding.contents-rows, Folding.Stand, Folding.stand-append, Keeping.differs, Keeping.HasCells, Keeping.HaveRoots, Keeping.holds-later, Keeping.root-kept, Operands.Contributes, Operands.contributes-there, Operands.none-filter, Operands.one-unit, Operands.opening_by, Operands.placed-at, Operands.valued-at, Taken.cell-inside, Taken.cell-is, Taken.cells-apart, Taken.taken-as}
+use Rattle.sj_lower.proofs.{Contents.contents-next, Contents.contents_before, Contents.first_worker, Contents.held-other, Contents.held-same, Contents.task_at, Copying.by_copies, Copying.copies-copied, Copying.IsNoCopy, Copying.laid-copied, Doing.cell-size, Doing.holds-task, Doing.IsReady, Doing.kernel_there, Doing.ready-held, Doing.the_cell, Folding.after_row, Folding.contents-rows, Folding.Stand, Folding.stand-append, Filling.gives_own, Good.AreGood, Good.cell-there, Good.good-append, Good.good_init, Good.good_task, Keeping.differs, Keeping.HasCells, Keeping.HaveRoots, Keeping.holds-later, Keeping.root-kept, Operands.Contributes, Operands.contributes-there, Operands.none-filter, Operands.one-unit, Operands.opening_by, Operands.placed-at, Operands.valued-at, Taken.cell-inside, Taken.cell-is, Taken.cells-apart, Taken.taken-as}
 
 -- what holds of each holds of those that pass
 pub each-kept : {X : Type 0} (P : X → Type 0) (p : X → Bool) (xs : List X) → AllByRecursion P xs → AllByRecursion P (filter p xs)
@@ -72,10 +72,11 @@ holds-blank q C n k rs u a laid has p blank m lives =
           record { value = held-other q (the_cell rs C u) a k (cell_of C m r.parts place) (differs (the_cell rs C u) (cell_of C m r.parts place) other) ∙ h.value; given = h.given };
     }
 
--- what the units of a contribution leave before task m: the roots, and the children that are contributed to
-record AreUnits (q : Program) (D : Laid) (m : ℕ) (rs : List RootState) (us : List (Operand ℕ)) : Type 0 where
+-- the units of a contribution are good, and before task m, behind them, are the roots and the children that are contributed to
+record AreUnits (q : Program) (D : Laid) (n m : ℕ) (rs : List RootState) (us : List (Operand ℕ)) (ls : List Lowered) : Type 0 where
+  good : AreGood q n ls
   roots : HaveRoots q D m (contents_before q m) rs
-  ready : AllByRecursion (λ u. IsReady q D (contents_before q m) rs u) us
+  ready : AllByRecursion (λ u. IsReady q D (contents_before q m) rs u × HasValueBefore q (task_at m) (the_cell rs D u)) us
 
 module _ (has : Kernel → Bool) (q : Program) (D : Laid) (n : ℕ) (rs : List RootState) (t : TaskLine ℕ) (line : Line) (s : IsSoundTaskAt has rs t) (cells : HasCells q D) (laid : AreLaid D) (roots : HaveRoots q D n (contents_before q n) rs) where
   module _ (con : Contributes rs t (kernel_there has rs t s).call.kernel) where
@@ -92,52 +93,64 @@ module _ (has : Kernel → Bool) (q : Program) (D : Laid) (n : ℕ) (rs : List R
     seen : (v : Bool) → has_value rs u ≡ v → cond v (child_array r u.place) (child_unit r u.place) ≡ seen_by u.mode r u.place
     seen v e = sym (ap (λ (m : Mode). seen_by m r u.place) con.redux ∙ ap (λ b. cond b (child_array r u.place) (child_unit r u.place)) e)
 
-    is_unit : unit_of out con.by (dims_of q c) ≡ child_unit r u.place
-    is_unit =
-        ap (unit_of out con.by) (cell-size q D n (contents_before q n) rs u cells laid roots con.placed)
-        ∙ sym (ap (λ (o : Option Reduction). elim o as (λ _. Array) [ None ↦ zeros (rect_dims (child_rect r u.place)) | Some by ↦ unit_of out by (rect_dims (child_rect r u.place)) ]) con.reduction)
-
-    by_valued : (v : Bool) → has_value rs u ≡ v → let ls = cond v [] (init_row con.by line c ∷ []) in Stand q n ls → AreUnits q D (n + length ls) rs (u ∷ [])
-    by_valued true valued stand = subst (λ m. AreUnits q D m rs (u ∷ [])) (sym (none_more n)) (record {
-      roots = roots;
-      ready = ((λ f. ((roots u.name con.placed.lives).held u.place con.placed.place valued).value ∙ seen true valued), tt);
-    })
+    by_valued : (v : Bool) → has_value rs u ≡ v → let ls = cond v [] (init_row con.by line c ∷ []) in Stand q n ls → AreUnits q D n (n + length ls) rs (u ∷ []) ls
+    by_valued true valued stand = subst (λ m. AreUnits q D n m rs (u ∷ []) []) (sym (none_more n)) (
+      let h = (roots u.name con.placed.lives).held u.place con.placed.place valued in record { good = tt; roots = roots; ready = (((λ f. h.value ∙ seen true valued), h.given), tt) })
     by_valued false blank stand =
+        let b = roots u.name con.placed.lives in
         let unit = unit_of out con.by (dims_of q c) in
+        let is_unit = ap (unit_of out con.by) (cell-size q D n (contents_before q n) rs u cells laid roots con.placed)
+            ∙ sym (ap (λ (o : Option Reduction). elim o as (λ _. Array) [ None ↦ zeros (rect_dims (child_rect r u.place)) | Some by ↦ unit_of out by (rect_dims (child_rect r u.place)) ]) con.reduction) in
         let left : contents_before q (n + 1) ≡ (c, unit) ∷ contents_before q n = contents-rows q n (init_row con.by line c ∷ []) stand ∙ after-init q (contents_before q n) con.by line c in
         record {
+          good = (good_init q n con.by line c (cell-there q D u.name r.dims r.parts b.first u.place cells laid b.taken con.placed.place), tt);
           roots = subst (λ k. HaveRoots q D (n + 1) k rs) (sym left) (holds-later q D n (n + 1) ((c, unit) ∷ contents_before q n) rs (omega arith) (holds-blank q D n (contents_before q n) rs u unit laid roots con.placed blank));
-          ready = ((λ f. ap (λ k. held_in q k c) left ∙ held-same q c unit (contents_before q n) ∙ is_unit ∙ seen false blank), tt);
+          ready = (((λ f. ap (λ k. held_in q k c) left ∙ held-same q c unit (contents_before q n) ∙ is_unit ∙ seen false blank), (task_at n, omega arith, ap (λ (x : Lowered). gives_value x c) stand.0 ∙ gives_own (init_of con.by) [] c line)), tt);
         }
 
+  abbrev ls : List Lowered
+  ls = units (task_block (by_number rs) D t line)
+
   -- the units of a task line
-  all-units : Stand q n (units (task_block (by_number rs) D t line)) → AreUnits q D (n + length (units (task_block (by_number rs) D t line))) rs (contributed t)
+  all-units : Stand q n ls → AreUnits q D n (n + length ls) rs (contributed t) ls
   all-units stand = elim (cases_Bool (list_any (λ (o : Operand ℕ). is_redux o.mode) t.operands)) [
     | inl some ↦
         let con = contributes-there has rs t s some in
         let one = one-unit con D line in
-        subst (λ ls. AreUnits q D (n + length ls) rs (contributed t)) (sym one)
-        (subst (AreUnits q D (n + length (first_units (opening_by con D) line)) rs) (sym con.contributed) (by_valued con (has_value rs con.last) refl (subst (Stand q n) one stand)))
+        subst (λ ls. AreUnits q D n (n + length ls) rs (contributed t) ls) (sym one)
+        (subst (λ us. AreUnits q D n (n + length (first_units (opening_by con D) line)) rs us (first_units (opening_by con D) line)) (sym con.contributed) (by_valued con (has_value rs con.last) refl (subst (Stand q n) one stand)))
     | inr none ↦
-        subst (λ (us : List (Operand ℕ)). AreUnits q D (n + length (flat_map (λ o. first_units o line) (flat_map (opening_for (by_number rs) D) us))) rs us) (sym (none-filter t.operands none))
-        (subst (λ m. AreUnits q D m rs []) (sym (none_more n)) (record { roots = roots; ready = tt }))
+        subst (λ (us : List (Operand ℕ)). let ls = flat_map (λ o. first_units o line) (flat_map (opening_for (by_number rs) D) us) in AreUnits q D n (n + length ls) rs us ls) (sym (none-filter t.operands none))
+        (subst (λ m. AreUnits q D n m rs [] []) (sym (none_more n)) (record { good = tt; roots = roots; ready = tt }))
   ]
 
-  -- behind them all that the task reads is ready
-  all-ready : (m : ℕ) → AreUnits q D m rs (contributed t) → AllByRecursion (IsReady q D (contents_before q m) rs) t.operands
-  all-ready m left = recursion_from_All (IsReady q D (contents_before q m) rs) t.operands (all-from (IsReady q D (contents_before q m) rs) t.operands (λ o h. elim (cases_Bool (is_redux o.mode)) [
-    | inl e ↦ All-contains (IsReady q D (contents_before q m) rs) (contributed t) o (All-from_recursion (IsReady q D (contents_before q m) rs) (contributed t) left.ready) (Contains-filter (λ (u : Operand ℕ). is_redux u.mode) t.operands o e h)
-    | inr e ↦ ready-held q D m (contents_before q m) rs o left.roots (placed-at has rs t s o h) (valued-at has rs t s o h) e
-  ]))
+  -- behind them, what is contributed to is ready
+  added : (m : ℕ) → AreUnits q D n m rs (contributed t) ls → (o : Operand ℕ) → Contains t.operands o → is_redux o.mode ≡ true → IsReady q D (contents_before q m) rs o × HasValueBefore q (task_at m) (the_cell rs D o)
+  added m left o h redux =
+      let P : Operand ℕ → Type 0 = λ u. IsReady q D (contents_before q m) rs u × HasValueBefore q (task_at m) (the_cell rs D u) in
+      All-contains P (contributed t) o (All-from_recursion P (contributed t) left.ready) (Contains-filter (λ (u : Operand ℕ). is_redux u.mode) t.operands o redux h)
+
+  -- the tasks of a task line are good
+  pub good-line : Stand q n (ls ++ direct (task_row (by_number rs) D t line) ∷ []) → AreGood q n (ls ++ direct (task_row (by_number rs) D t line) ∷ [])
+  good-line stand =
+      let row = direct (task_row (by_number rs) D t line) in
+      let left = all-units (stand-append q n ls (row ∷ []) stand).0 in
+      let m = n + length ls in
+      good-append q n ls (row ∷ []) left.good (good_task q D m (contents_before q m) rs cells laid left.roots has t line s (λ o among redux. (added m left o among redux).1), tt)
 
   -- the roots after the tasks of a task line
-  pub roots-task : let ls = plain_rows (task_block (by_number rs) D t line) in Stand q n ls → HaveRoots q D (n + length ls) (contents_before q (n + length ls)) (run_task_at t rs)
+  pub roots-task : let rows = ls ++ direct (task_row (by_number rs) D t line) ∷ [] in Stand q n rows → HaveRoots q D (n + length rows) (contents_before q (n + length rows)) (run_task_at t rs)
   roots-task stand =
-      let us = units (task_block (by_number rs) D t line) in
+      let us = ls in
       let row = direct (task_row (by_number rs) D t line) in
       let parts = stand-append q n us (row ∷ []) stand in
       let left = all-units parts.0 in
-      let ran = holds-task has q D (n + length us) (contents_before q (n + length us)) rs t line cells laid left.roots s (all-ready (n + length us) left) parts.1.0 in
+      let m = n + length us in
+      let ready = all-from (IsReady q D (contents_before q m) rs) t.operands (λ o h. elim (cases_Bool (is_redux o.mode)) [
+        | inl e ↦ (added m left o h e).0
+        | inr e ↦ ready-held q D m (contents_before q m) rs o left.roots (placed-at has rs t s o h) (valued-at has rs t s o h) e
+      ]) in
+      let ran = holds-task has q D m (contents_before q m) rs t line cells laid left.roots s (recursion_from_All (IsReady q D (contents_before q m) rs) t.operands ready) parts.1.0 in
       let longer : n + length (us ++ row ∷ []) ≡ (n + length us) + 1 = omega (arith, length-append us (row ∷ [])) in
       subst (λ k. HaveRoots q D (n + length (us ++ row ∷ [])) k (run_task_at t rs)) (sym (contents-next q (n + length us) (n + length (us ++ row ∷ [])) longer))
       (subst (λ m. HaveRoots q D m (after_task out q first_worker (task_at (n + length us)) (contents_before q (n + length us))) (run_task_at t rs)) (sym longer) ran)

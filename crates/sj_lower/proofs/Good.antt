@@ -1,7 +1,8 @@
 -- Each task of the program without phases is as a proper program has it, by the roots' numbers.
-use Rattle.sj_lower.proofs.Words.{[], Access, access, access_of, All, AllByRecursion, AllPairs, ap, area, AreLaid, arith, array, BeginOnce, Bool, by_number, Cell, cell_of, child, child_dims_at, clashes_at, Contains, Contents, Deliver, deliver_row, Dims, dims_of, direct, direct_access, direct_mode, each_of, element, false, Fill, fill_arguments, fill_row, fits, FitsCodelet, flat_map, gives_value, HasTakenPlan, HasValueBefore, Init, init_of, init_row, inl, inr, int_le, is_aliased_at, is_first, is_read_only, is_redux, is_scratch, IsPasteBetween, IsPlace, IsPlacedAt, IsPlain, IsSoundTaskAt, IsUnaliased, Kernel, kernel_of, Laid, Least, length, Line, List, list_all, list_any, Load, load_row, load_rows, LoadFill, Lowered, MayHaveModes, Mode, needs_value, not, Nothing, Operand, own_modes, own_task, Parts, Paste, paste_arguments, paste_copy, paste_row, PasteKernel, pastes_of, pastes_to, places, Plus, pos, Program, R, reads_value, Rect, rect_dims, Reduction, refl, root_at, RootState, RW, Scratch, Some, subst, sym, task_of, task_row, TaskLine, true, Values, W, window, ℕ, ℤ, ◌&&◌, ◌++◌, ◌+◌, ◌<◌, ◌||◌, ◌∙◌, ◌∷◌, ◌≡◌, ◌≤◌, cond}
+use Rattle.sj_lower.proofs.Words.{[], Access, access, access_of, All, AllByRecursion, AllPairs, ap, area, AreLaid, arith, array, BeginOnce, Bool, by_number, Cell, cell_of, child, child_dims_at, clashes_at, Contains, Contents, Deliver, deliver_row, Dims, dims_of, direct, direct_access, direct_mode, each_of, element, false, Fill, fill_arguments, fill_row, fits, FitsCodelet, flat_map, gives_value, HasTakenPlan, HasValueBefore, Init, init_of, init_row, inl, inr, int_le, is_aliased_at, is_first, is_read_only, is_redux, is_scratch, IsPasteBetween, IsPlace, IsPlacedAt, IsPlain, IsSoundTaskAt, IsUnaliased, Kernel, kernel_of, Laid, Least, length, Line, List, list_all, list_any, Load, load_row, load_rows, LoadFill, Lowered, MayHaveModes, Mode, needs_value, not, Nothing, Operand, own_modes, own_task, Parts, Paste, paste_arguments, paste_copy, paste_row, PasteKernel, pastes_of, pastes_to, places, Plus, pos, Program, R, reads_value, Rect, rect_dims, Reduction, refl, root_at, RootState, RW, Some, subst, sym, task_of, task_row, TaskLine, true, Values, W, window, ℕ, ℤ, ◌&&◌, ◌++◌, ◌+◌, ◌<◌, ◌||◌, ◌∙◌, ◌∷◌, ◌≡◌, ◌≤◌, cond}
 use Rattle.std.proofs.lemmas.{Bool.and_from, Bool.cases_lt, Bool.cond_both, Bool.Decides.Decides-eqb, Bool.false≢true, Bool.le-leb, Bool.or_cases, Bool.or_parts, List.Elements.All-contains, List.Elements.All-from_recursion, List.Elements.All-map, List.Kept.AllPairs-cons, List.Kept.AllPairs-filter, Option.same_Some}
-use Rattle.sj_base.proofs.{Lists.map-agree, Numbers.length_more, Numbers.none_more, Tables.length-table}
+use Rattle.sj_base.proofs.{Bools.implied, Lists.map-agree, Numbers.length_more, Numbers.none_more, Tables.length-table}
+use Rattle.sj_core.proofs.Modes.{every_mode}
 use Rattle.sj_codelet.proofs.Table.{kernel_of-codelet_of}
 use Rattle.sj_plan.proofs.Lists.{each-map, each-places, pairs-from_ordered}
 use Rattle.sj_phases.proofs.{Good.ReadOnly, Lists.all-from}
@@ -153,9 +154,7 @@ module _ (p : Program) (D : Laid) (n m : ℕ) (d : Dims) (s t : Parts) (f g : �
 -- ---- tasks of task lines
 
 found-needs : (m : Mode) → reads_value (direct_mode m) ≡ true → (needs_value m || is_redux m) ≡ true
-found-needs W h = absurd (false≢true h)
-found-needs Scratch h = absurd (false≢true h)
-found-needs m h = refl
+found-needs m = implied (reads_value (direct_mode m)) (needs_value m || is_redux m) (every_mode (λ x. not (reads_value (direct_mode x)) || (needs_value x || is_redux x)) refl m)
 
 direct-reads : (m : Mode) → is_read_only m ≡ true → direct_mode m ≡ R
 direct-reads R h = refl

@@ -1,5 +1,4 @@
--- The modes of a task's operands, by its roots' numbers, are modes that a program may have: with contributions, and without
--- phases.
+-- The modes of a task's operands, with contributions and without phases, are modes that a program may have.
 use Rattle.sj_lower.proofs.Words.{[], ap, arith, Bool, Commute, commutes_in, commutes_of, cond, Contains, count_by, direct_mode, each_of, false, Formal, FormalR, FormalRW, formals_of, FormalScratch, FormalW, inl, inr, is_commute, is_output, is_redux, is_unordered, is_written, IsSoundTaskAt, Kernel, length, List, list_all, list_any, MayHaveModes, Mode, mode_fits, mode_of, modes_fit_at, modes_writing_by, None, not, Operand, Option, R, Redux, refl, RootState, RW, Scratch, Some, subst, sym, TaskLine, true, W, writes_one, written_of, ℕ, ◌&&◌, ◌++◌, ◌||◌, ◌∙◌, ◌∷◌, ◌≡◌}
 use Rattle.std.proofs.lemmas.{Bool.and_parts, Bool.cases_Bool, Bool.false≢true, Bool.or_right, List.Sums.length-filter}
 use Rattle.sj_base.proofs.{Bools.implied, Lists.map-agree}

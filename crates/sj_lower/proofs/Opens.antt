@@ -1,5 +1,5 @@
 -- Which phases a statement leaves open: those of children with values, whose roots have the reduction.
-use Rattle.sj_lower.proofs.Words.{[], Act, active_cells, AllByRecursion, ap, apply_at, area, arith, Array, Bool, by_number, Cell, cell_of, change_at, child_dims_at, closing, cond, Contains, contributed, Dims, each_of, false, flat_map, fold, get_or-set_other, handle_of, HasTakenPlan, inl, inr, Invalidates, is_child, is_redux, is_some, is_valued, is_valued_child, is_written, IsPlace, IsPlacedAt, IsSoundAt, IsSoundTaskAt, Kernel, Laid, length, length-append, Line, List, list_all, list_any, Lives, no_root, no_values, number, open_at, opening_for, OpenReductions, Operand, operand_array_at, operand_cell, Option, out, Parts, paste_row, pastes_of, places, plan_block, Plans, Prints, Program, put_all_at, Reduces, Reduction, refl, registered_root, Registers, root_at, RootState, run_task_at, same_cell, same_child_place, same_parts, shut_by, slice_set, Some, step_of, subst, sym, take, task_block, TaskBlock, TaskLine, Tasks, true, Unregisters, with_child, with_copies, with_elements, with_handle, with_opening, with_parts, with_print, with_reduction, with_shut, written_of, ℕ, ℤ, ◌&&◌, ◌++◌, ◌<◌, ◌∙◌, ◌∷◌, ◌≡◌}
+use Rattle.sj_lower.proofs.Words.{[], Act, active_cells, AllByRecursion, ap, apply_at, area, arith, Array, Bool, by_number, Cell, cell_of, change_at, child_dims_at, closing, cond, Contains, contributed, Dims, each_of, flat_map, fold, get_or-set_other, handle_of, HasTakenPlan, inl, inr, Invalidates, is_child, is_redux, is_some, is_valued, is_valued_child, is_written, IsPlace, IsPlacedAt, IsSoundAt, IsSoundTaskAt, Kernel, Laid, length, length-append, Line, List, list_all, list_any, Lives, no_root, no_values, number, open_at, opening_for, OpenReductions, Operand, operand_array_at, operand_cell, Option, out, Parts, paste_row, pastes_of, places, plan_block, Plans, Prints, Program, put_all_at, Reduces, Reduction, refl, registered_root, Registers, root_at, RootState, run_task_at, same_cell, same_child_place, same_parts, shut_by, slice_set, Some, step_of, subst, sym, take, task_block, TaskBlock, TaskLine, Tasks, true, Unregisters, with_child, with_copies, with_elements, with_handle, with_opening, with_parts, with_print, with_reduction, with_shut, written_of, ℕ, ℤ, ◌&&◌, ◌++◌, ◌<◌, ◌∙◌, ◌∷◌, ◌≡◌}
 use Rattle.std.proofs.lemmas.{Bool.cases_Bool, Bool.cases_eq, Bool.cond_both, Bool.false≢true, List.get_or-map, List.length-map}
 use Rattle.sj_base.proofs.{Lists.each-weaker, SameIds.cell_of_number}
 use Rattle.sj_core.proofs.Readiness.{Contains-map}
@@ -103,11 +103,6 @@ module _ (q : Program) (C : Laid) (rs : List RootState) (n : ℕ) (was : OpenRed
       let h = copied-opens C D rs was (fold-handles q.workers (each_of (operand_cell (by_number rs) C) (contributed t)) C) at.agrees.opens c by e in
       record { number = h.number; place = h.place; at = open-puts D c by h.number h.place (written_of t.operands) outs rs (each-kept (IsPlacedAt rs) (λ o. is_written o.mode) t.operands s.placed) h.at }
 
-  none-opens : list_any (λ o. is_redux o.mode) t.operands ≡ false → AreOpenChildren D new (open_at was b)
-  none-opens none c by e =
-      let quiet = ap (λ us. fold with_opening (shut_by was b) (flat_map (opening_for (by_number rs) D) us)) (none-filter t.operands none) in
-      old c by (shut-less b.closes was c by (ap (λ (f : OpenReductions). f c) (sym quiet) ∙ e))
-
   module _ (con : Contributes rs t (kernel_there set rs t s).call.kernel) where
     abbrev u : Operand ℕ
     u = con.last
@@ -139,7 +134,9 @@ module _ (q : Program) (C : Laid) (rs : List RootState) (n : ℕ) (was : OpenRed
   task-opens : AreOpenChildren D new (open_at was b)
   task-opens = elim (cases_Bool (list_any (λ (o : Operand ℕ). is_redux o.mode) t.operands)) [
     | inl some ↦ gift-opens (contributes-there set rs t s some)
-    | inr none ↦ none-opens none
+    | inr none ↦ λ c by e.
+        (let quiet = ap (λ us. fold with_opening (shut_by was b) (flat_map (opening_for (by_number rs) D) us)) (none-filter t.operands none) in
+        old c by (shut-less b.closes was c by (ap (λ (f : OpenReductions). f c) (sym quiet) ∙ e)))
   ]
 
 -- ---- all statements

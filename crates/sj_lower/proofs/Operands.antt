@@ -1,5 +1,4 @@
--- The operands of a task that contributes, by its roots' numbers: the last one gets the contribution, and those before it are
--- only read, scratch aside.
+-- A task that contributes does so, by its roots' numbers, to the one operand that it writes.
 use Rattle.sj_lower.proofs.Words.{[], AllPairs, ap, AreLaid, arith, Bool, by_number, clashes_at, Codelet, commutes_in, cond, Contains, Contents, contributed, contributes_in, contributes_of, false, filter, first_copy_in, first_units, flat_map, has_reduction, has_value, is_aliased_at, is_commute, is_lawful_for, is_read_only, is_redux, is_valued_child, is_written, IsPlacedAt, IsSoundTaskAt, Kernel, Laid, length, Line, List, list_any, Mode, nat_eq, needs_value, None, not, opening_for, Operand, Option, PhaseOpening, Program, Reduction, Redux, refl, root_at, RootState, same_child_place, Some, subst, sym, task_block, TaskLine, true, units, written_of, ℕ, ◌&&◌, ◌++◌, ◌||◌, ◌∙◌, ◌∷◌, ◌≡◌, is_unordered}
 use Rattle.std.proofs.lemmas.{Bool.and_parts, Bool.Decides.Decides-eqb, Bool.false_from_ne_true, Bool.false≢true, Bool.not-false, Bool.or_parts, List.append-nil, List.Elements.All-contains, List.Elements.All-from_recursion, List.Folds.list_any_at, List.Kept.AllPairs-cons, List.Sums.AllPass-from_list_all}
 use Rattle.sj_base.proofs.{Bools.and_middle, Bools.and_rest, Bools.implied, Modes.redux-is}

@@ -61,9 +61,6 @@ quiet-block p was line cs ls h =
 pub orderly-nothing : (p : Program) (was : OpenReductions) (line : Line) (cs : List Cell) → IsOrderly p was (closing line cs [])
 orderly-nothing p was line cs = quiet-block p was line cs [] tt
 
-place-of : (s : Parts) (x : ℕ × ℕ) → Contains (places s) x → IsPlace s x
-place-of s x h = All-contains (IsPlace s) (places s) x (All-from_recursion (IsPlace s) (places s) (each-places (IsPlace s) s (λ y k. k))) h
-
 -- what is open behind them was so before
 pub shut-less : (cs : List Cell) (was : OpenReductions) (c : Cell) (by : Reduction) → fold with_shut was cs c ≡ Some by → was c ≡ Some by
 shut-less [] was c by e = e
@@ -78,10 +75,8 @@ module _ (p : Program) (D : Laid) (was : OpenReductions) (line : Line) (cells : 
 
   pub orderly-loads : (m : ℕ) (d : Dims) (s : Parts) (f : ℕ) (i : Init) → HasTakenPlan D m d s f → ((place : ℕ × ℕ) → IsPlace s place → was (cell_of D m s place) ≡ None) → IsOrderly p was (closing line [] (load_rows i d s (cell_of D m s) line))
   orderly-loads m d s f i t fresh =
+      let loaded = λ (place : ℕ × ℕ) (at : IsPlace s place). All-from_recursion (IsBeside p was) (access W (cell_of D m s place) ∷ []) (record { plain = plain-child p D m d s f place cells copies laid t at; direct = refl; shut = fresh place at }, tt) in
       quiet-block p was line [] (load_rows i d s (cell_of D m s) line) (each-load (IsQuiet p was) i d s (cell_of D m s) line (λ xs place at. (loaded place at, λ e. absurd (cc))) (λ a b place at. (loaded place at, λ e. absurd (cc))))
-    where
-      loaded : (place : ℕ × ℕ) → IsPlace s place → All (IsBeside p was) (access W (cell_of D m s place) ∷ [])
-      loaded place at = All-from_recursion (IsBeside p was) (access W (cell_of D m s place) ∷ []) (record { plain = plain-child p D m d s f place cells copies laid t at; direct = refl; shut = fresh place at }, tt)
 
   -- ---- pastes
 
@@ -121,33 +116,26 @@ module _ (p : Program) (D : Laid) (n : ℕ) (k : Contents) (rs : List RootState)
   shut : (o : Operand ℕ) → Contains t.operands o → is_data o.mode ≡ true → is_redux o.mode ≡ false → shut_by was b (the_cell rs D o) ≡ None
   shut o h data' direct = shuts b.closes was (the_cell rs D o) (inl (Contains-map (operand_cell (by_number rs) D) (filter is_other_access t.operands) o (Contains-filter is_other_access t.operands o (and_from (is_data o.mode) (not (is_redux o.mode)) data' (ap not direct)) h)))
 
-  silent : All IsOther (l ∷ [])
-  silent = All-from_recursion IsOther (l ∷ []) (s.silent, tt)
-
-  -- the task, by the phases that are open at it
-  orderly-task : (opens : OpenReductions) → ((o : Operand ℕ) → Contains t.operands o → is_data o.mode ≡ true → is_redux o.mode ≡ false → opens (the_cell rs D o) ≡ None) → ((o : Operand ℕ) → Contains t.operands o → is_redux o.mode ≡ true → ContributesTo opens l (the_cell rs D o)) → IsOrderlyTask p opens l
-  orderly-task opens none gifts = record {
-    plain = All-map (λ (a : Access). IsPlain p a.cell) (access_of (by_number rs) D) t.operands (all-from (λ (o : Operand ℕ). IsPlain p (the_cell rs D o)) t.operands plain);
-    shut = all-from (λ (a : Access). not (is_redux a.mode) ≡ true → opens a.cell ≡ None) (data_operands l) (λ a h mode.
-        (let o = map-from (access_of (by_number rs) D) t.operands a (Contains-from_filter (λ (x : Access). not (is_scratch x.mode)) l.accesses a h) in
-        let data' = ap (λ (x : Access). is_data x.mode) o.2 ∙ filter-Contains (λ (x : Access). not (is_scratch x.mode)) l.accesses a h in
-        subst (λ (x : Access). opens x.cell ≡ None) o.2 (none o.0 o.1 data' (not-true (is_redux o.0.mode) (ap (λ (x : Access). not (is_redux x.mode)) o.2 ∙ mode)))));
-    contributes = All-map (λ (a : Access). is_redux a.mode ≡ true → ContributesTo opens l a.cell) (access_of (by_number rs) D) t.operands (all-from (λ (o : Operand ℕ). is_redux o.mode ≡ true → ContributesTo opens l (the_cell rs D o)) t.operands gifts);
-  }
+  -- the block, by the phases that are open at its task
+  orderly-block : ((o : Operand ℕ) → Contains t.operands o → is_data o.mode ≡ true → is_redux o.mode ≡ false → open_at was b (the_cell rs D o) ≡ None) → ((o : Operand ℕ) → Contains t.operands o → is_redux o.mode ≡ true → ContributesTo (open_at was b) l (the_cell rs D o)) → AreOpenings p (l ∷ []) (shut_by was b) b.opens → IsOrderly p was b
+  orderly-block none gifts openings =
+      let opens = open_at was b in
+      let task : IsOrderlyTask p opens l = record {
+        plain = All-map (λ (a : Access). IsPlain p a.cell) (access_of (by_number rs) D) t.operands (all-from (λ (o : Operand ℕ). IsPlain p (the_cell rs D o)) t.operands plain);
+        shut = all-from (λ (a : Access). not (is_redux a.mode) ≡ true → opens a.cell ≡ None) (data_operands l) (λ a h mode.
+          (let o = map-from (access_of (by_number rs) D) t.operands a (Contains-from_filter (λ (x : Access). not (is_scratch x.mode)) l.accesses a h) in
+          let data' = ap (λ (x : Access). is_data x.mode) o.2 ∙ filter-Contains (λ (x : Access). not (is_scratch x.mode)) l.accesses a h in
+          subst (λ (x : Access). opens x.cell ≡ None) o.2 (none o.0 o.1 data' (not-true (is_redux o.0.mode) (ap (λ (x : Access). not (is_redux x.mode)) o.2 ∙ mode)))));
+        contributes = All-map (λ (a : Access). is_redux a.mode ≡ true → ContributesTo opens l a.cell) (access_of (by_number rs) D) t.operands (all-from (λ (o : Operand ℕ). is_redux o.mode ≡ true → ContributesTo opens l (the_cell rs D o)) t.operands gifts);
+      } in
+      record { tasks = All-from_recursion (IsOrderlyTask p opens) (l ∷ []) (task, tt); openings = openings; delivered = delivered-quiet (l ∷ []) (All-from_recursion IsOther (l ∷ []) (s.silent, tt)) }
 
   -- no contribution
   pub orderly-direct : list_any (λ o. is_redux o.mode) t.operands ≡ false → IsOrderly p was b
   orderly-direct none =
       let quiet = ap (flat_map (opening_for (by_number rs) D)) (none-filter t.operands none) in
-      record {
-        tasks = All-from_recursion (IsOrderlyTask p (open_at was b)) (l ∷ []) (
-          orderly-task (open_at was b) (λ o h data' direct. ap (λ (os : List PhaseOpening). fold with_opening (shut_by was b) os (the_cell rs D o)) quiet ∙ shut o h data' direct)
-              (λ o h redux. absurd (false≢true (sym (none-passes (λ (u : Operand ℕ). is_redux u.mode) t.operands none o h) ∙ redux))),
-          tt,
-        );
-        openings = subst (AreOpenings p (l ∷ []) (shut_by was b)) (sym quiet) tt;
-        delivered = delivered-quiet (l ∷ []) silent;
-      }
+      orderly-block (λ o h data' direct. ap (λ (os : List PhaseOpening). fold with_opening (shut_by was b) os (the_cell rs D o)) quiet ∙ shut o h data' direct)
+      (λ o h redux. absurd (false≢true (sym (none-passes (λ (u : Operand ℕ). is_redux u.mode) t.operands none o h) ∙ redux))) (subst (AreOpenings p (l ∷ []) (shut_by was b)) (sym quiet) tt)
 
   -- a contribution
   module _ (con : Contributes rs t (kernel_there set rs t s).call.kernel) (copied : (f : Cell) × ((info_at D (the_cell rs D con.last)).partials ≡ Some f)) where
@@ -196,23 +184,18 @@ module _ (p : Program) (D : Laid) (n : ℕ) (k : Contents) (rs : List RootState)
         (sym ((λ i. is_valued_child (root_at rs (one.0 i)) (one.2 i))) ∙ child.at.valued, some_is con.by by (sym con.reduction ∙ ap (λ m. (root_at rs m).reduction) (sym one.0) ∙ child.at.reduction))
 
     pub orderly-gift : IsOrderly p was b
-    orderly-gift = record {
-      tasks = All-from_recursion (IsOrderlyTask p (open_at was b)) (l ∷ []) (
-        orderly-task (open_at was b)
-            (λ o h data' direct. ap (λ (f : OpenReductions). f (the_cell rs D o)) one_open ∙ phase-other c (Some con.by) (shut_by was b) (the_cell rs D o) (apart o h direct) ∙ shut o h data' direct)
-            (λ o h redux. subst (λ (x : Operand ℕ). ContributesTo (open_at was b) l (the_cell rs D x)) (only-last con o h redux) gift),
-        tt,
-      );
-      openings = subst (AreOpenings p (l ∷ []) (shut_by was b)) (sym (one-opens con D)) (
-        record {
-          used = (l, first-has l [], gives);
-          valued = goes_on;
-          copies = cells.kept c.0 (first_copy_in D c) (copied.1 ∙ ap (λ (o : Option Cell). Some (unwrap_or o (record { 0 = length D.rows }))) (sym copied.1));
-        },
-        tt,
-      );
-      delivered = delivered-quiet (l ∷ []) silent;
-    }
+    orderly-gift =
+        orderly-block
+        (λ o h data' direct. ap (λ (f : OpenReductions). f (the_cell rs D o)) one_open ∙ phase-other c (Some con.by) (shut_by was b) (the_cell rs D o) (apart o h direct) ∙ shut o h data' direct)
+        (λ o h redux. subst (λ (x : Operand ℕ). ContributesTo (open_at was b) l (the_cell rs D x)) (only-last con o h redux) gift)
+        (subst (AreOpenings p (l ∷ []) (shut_by was b)) (sym (one-opens con D)) (
+          record {
+            used = (l, first-has l [], gives);
+            valued = goes_on;
+            copies = cells.kept c.0 (first_copy_in D c) (copied.1 ∙ ap (λ (o : Option Cell). Some (unwrap_or o (record { 0 = length D.rows }))) (sym copied.1));
+          },
+          tt,
+        ))
 
 -- ---- print statements
 
@@ -240,20 +223,16 @@ zip-numbers : (n : ℕ) (d : Dims) (s : Parts) (print a : ℕ) (ps : List (ℕ �
 zip-numbers n d s print a [] = refl
 zip-numbers n d s print a (x ∷ ps) = ap (λ xs. a ∷ xs) (zip-numbers n d s print (a + 1) ps)
 
--- the cells of a root's active children
-abbrev pub cells_by : Laid → ℕ → RootState → List Cell
-cells_by D m r = each_of (cell_of D m r.parts) (places r.parts)
-
 pub orderly-prints : (p : Program) (D : Laid) (was : OpenReductions) (line : Line) (m : ℕ) (r : RootState) (f print : ℕ) → HasCells p D → AreLaid D → HaveCopies p.workers D → HasTakenPlan D m r.dims r.parts f
-    → IsOrderly p was (print_block m r (cells_by D m r) print line)
+    → IsOrderly p was (print_block m r (each_of (cell_of D m r.parts) (places r.parts)) print line)
 orderly-prints p D was line m r f print cells laid copies t =
-    let cs = cells_by D m r in
+    let cs = each_of (cell_of D m r.parts) (places r.parts) in
     let opens = fold with_shut was cs in
     let row = λ (c : Cell). deliver_row c line in
     record {
       tasks = All-map (IsOrderlyTask p opens) row cs (all-from (λ (c : Cell). IsOrderlyTask p opens (row c)) cs (λ c among.
           (let place = map-from (cell_of D m r.parts) (places r.parts) c among in
-          let plain = subst (IsPlain p) place.2 (plain-child p D m r.dims r.parts f place.0 cells copies laid t (place-of r.parts place.0 place.1)) in
+          let plain = subst (IsPlain p) place.2 (plain-child p D m r.dims r.parts f place.0 cells copies laid t (All-contains (IsPlace r.parts) (places r.parts) place.0 (All-from_recursion (IsPlace r.parts) (places r.parts) (each-places (IsPlace r.parts) r.parts (λ y at. at))) place.1)) in
           beside-task p opens (row c) (All-from_recursion (IsBeside p opens) (access R c ∷ []) (record { plain = plain; direct = refl; shut = shuts cs was c (inl among) }, tt)))));
       openings = tt;
       delivered = delivered-numbered (each_of row cs) (each_of (a_delivery m r.dims r.parts print) (zip (range_with_len 0 (length (places r.parts))) (places r.parts))) (λ l among. (let x = map-from row cs l among in ap (λ (y : Lowered). kernel_of y.codelet) (sym x.2)))

@@ -3,7 +3,7 @@ use Rattle.sj_lower.proofs.Words.{[], Act, active_cells, ap, apply_at, AreLaid, 
 use Rattle.std.proofs.lemmas.Bool.{cases_Bool, cond_both, false≢true}
 use Rattle.sj_core.proofs.Readiness.{Contains-map}
 use Rattle.sj_plan.proofs.Lists.{each-map, each-places}
-use Rattle.sj_lower.proofs.{Agrees.Agrees, Contents.contents_before, Contents.task_at, Contributing.fold-handles, Contributing.roots-copied, Contributing.same-cells, Copying.copied-first, Doing.the_cell, Elements.valued-child, Folding.Stand, Following.IsAt, Good.AreGood, Good.cell-there, Good.good-all, Good.good_deliver, Good.good_pastes, Good.IsGood, Goods.good-line, Goods.good_loads, Keeping.lives-below, Opens.copied-opens, Opens.kept-cell, Opens.place-in, Opens.Takes, Opens.takes-planned, Opens.takes-registered, Operands.contributes-there, Orderly.orderly-direct, Orderly.orderly-gift, Orderly.orderly-loads, Orderly.orderly-nothing, Orderly.orderly-pastes, Orderly.orderly-prints, Orderly.plain-child, Places.parts-itself, Stepping.direct-delivers, Stepping.direct-each, Stepping.direct-loads, Stepping.direct-paste, Stepping.Keeps, Taken.cell-inside, Taken.cells-apart}
+use Rattle.sj_lower.proofs.{Agrees.Agrees, Contents.contents_before, Contents.task_at, Contributing.fold-handles, Contributing.good-line, Contributing.roots-copied, Contributing.same-cells, Copying.copied-first, Doing.the_cell, Elements.valued-child, Folding.Stand, Following.IsAt, Good.AreGood, Good.cell-there, Good.good-all, Good.good_deliver, Good.good_pastes, Good.IsGood, Goods.good_loads, Keeping.lives-below, Opens.copied-opens, Opens.kept-cell, Opens.place-in, Opens.Takes, Opens.takes-planned, Opens.takes-registered, Operands.contributes-there, Orderly.orderly-direct, Orderly.orderly-gift, Orderly.orderly-loads, Orderly.orderly-nothing, Orderly.orderly-pastes, Orderly.orderly-prints, Orderly.plain-child, Places.parts-itself, Stepping.direct-delivers, Stepping.direct-loads, Starting.direct-pastes, Starting.Keeps, Taken.cell-inside, Taken.cells-apart}
 
 -- a child's cell on which no phase is open, where its plan is taken now: no open child is that of its root and plan
 not-open : (q : Program) (C D : Laid) (rs : List RootState) (n : ℕ) (was : OpenReductions) (m : ℕ) (d : Dims) (s : Parts) (place : ℕ × ℕ) → AreLaid D → Agrees q C rs n was → Takes C D m d s → IsPlace s place → ((i : ℕ) → Lives rs i → m ≡ i → s ≡ (root_at rs i).parts → ⊥) → was (cell_of D m s place) ≡ None
@@ -44,15 +44,15 @@ module _ (has : Kernel → Bool) (q : Program) (C : Laid) (rs : List RootState) 
       let same-cell = λ (x : ℕ × ℕ). kept-cell C D m r.dims r.parts b.first x b.taken kept in
       let old = active_cells (by_number rs) C m in
       let pastes = each_of (paste_row (cell_of D m r.parts) (cell_of D m p) line) (pastes_of r.dims r.parts p) in
-      let direct-pastes = direct-each (paste_row (cell_of D m r.parts) (cell_of D m p) line) (direct-paste (cell_of D m r.parts) (cell_of D m p) line) (pastes_of r.dims r.parts p) in
+      let same = direct-pastes (cell_of D m r.parts) (cell_of D m p) line (pastes_of r.dims r.parts p) in
       cond_both (same_parts r.parts p) (closing line [] []) (closing line old (cond (is_valued r) pastes [])) (λ (b : TaskBlock). Stand q n (plain_rows b) → IsFine q was n b) (λ e stand. (tt, orderly-nothing q was line [])) (λ e.
-      let two = λ (same : r.parts ≡ p). false≢true (sym e ∙ ap (same_parts r.parts) (sym same) ∙ parts-itself r.parts) in
+      let two = λ (is : r.parts ≡ p). false≢true (sym e ∙ ap (same_parts r.parts) (sym is) ∙ parts-itself r.parts) in
       cond_both (is_valued r) pastes [] (λ (ls : List Lowered). Stand q n (each_of direct ls) → IsFine q was n (closing line old ls)) (λ f stand. (
-        subst (AreGood q n) (sym direct-pastes) (good_pastes q D n m r.dims r.parts p b.first t.first line at.cells k.laid kept t.own two
-            (λ x h. subst (HasValueBefore q (task_at n)) (same-cell x) (b.held x h (valued-child r x b.whole f h)).given) (subst (Stand q n) direct-pastes stand)),
+        subst (AreGood q n) (sym same) (good_pastes q D n m r.dims r.parts p b.first t.first line at.cells k.laid kept t.own two
+            (λ x h. subst (HasValueBefore q (task_at n)) (same-cell x) (b.held x h (valued-child r x b.whole f h)).given) (subst (Stand q n) same stand)),
         orderly-pastes q D was line at.cells k.laid k.copies m r.dims r.parts p b.first t.first old kept t.own
             (λ x inside. subst (Contains old) (same-cell x) (Contains-map (cell_of C m r.parts) (places r.parts) x (place-in r.parts x inside)))
-            (λ x inside. not-open q C D rs n was m r.dims p x k.laid g t inside (λ i lives same parts. two (ap (λ j. (root_at rs j).parts) same ∙ sym parts))),
+            (λ x inside. not-open q C D rs n was m r.dims p x k.laid g t inside (λ i lives e parts. two (ap (λ j. (root_at rs j).parts) e ∙ sym parts))),
       )) (λ f stand. (tt, orderly-nothing q was line old))) at.stand
   fine-step (Reduces m by) s at k = (tt, orderly-nothing q was line [])
   fine-step (Tasks t) s at k =
@@ -61,7 +61,7 @@ module _ (has : Kernel → Bool) (q : Program) (C : Laid) (rs : List RootState) 
       let handles = fold-handles q.workers (each_of (operand_cell (by_number rs) C) (contributed t)) C in
       let roots = roots-copied q C D n (contents_before q n) rs handles g.roots in
       let opened = copied-opens C D rs was handles g.opens in
-      (good-line has q D rs n line t s at.cells k.laid roots at.stand, elim (cases_Bool (list_any (λ (o : Operand ℕ). is_redux o.mode) t.operands)) [
+      (good-line has q D n rs t line s at.cells k.laid roots at.stand, elim (cases_Bool (list_any (λ (o : Operand ℕ). is_redux o.mode) t.operands)) [
         | inl some ↦
             let con = contributes-there has rs t s some in
             let u = con.last in
