@@ -1,11 +1,11 @@
 -- A task line with its contribution, in the program without phases: its child gets the unit first where it has no value.
-use Rattle.sj_lower.proofs.Words.{[], after_task, AllByRecursion, ap, AreLaid, arith, Array, Bool, by_number, Cell, cell_of, child_array, child_rect, child_unit, cond, Contents, contributed, dims_of, direct, each_of, false, filter, first_units, flat_map, fold, Handle, handle_at, has_value, HaveCopies, held_in, init_row, inl, inr, is_redux, is_valued_child, IsPlacedAt, IsSoundTaskAt, Kernel, Laid, Least, length, length-append, Line, List, list_any, Mode, None, opening_for, Operand, Option, out, Parts, Plus, Program, rect_dims, Reduction, refl, root_at, RootState, run_task_at, seen_by, Some, subst, sym, task_block, task_row, TaskLine, true, unit_of, units, with_copies, zeros, ℕ, ◌++◌, ◌+◌, ◌∙◌, ◌∷◌, ◌≡◌, gives_value, HasValueBefore, init_of, Lowered, Contains}
+use Rattle.sj_lower.proofs.Words.{[], after_task, AllByRecursion, ap, AreLaid, arith, Array, Bool, by_number, Cell, cell_of, child_array, child_rect, child_unit, cond, Contents, contributed, dims_of, direct, each_of, false, filter, first_units, flat_map, fold, Handle, handle_at, has_value, HaveCopies, held_in, init_row, inl, inr, is_redux, is_valued_child, IsPlacedAt, IsSoundTaskAt, Kernel, Laid, Least, length, length-append, Line, List, list_any, Mode, None, opening_for, Operand, Option, out, Parts, Plus, Program, rect_dims, Reduction, refl, root_at, RootState, run_task_at, seen_by, Some, subst, sym, task_block, task_row, TaskLine, true, unit_of, units, with_copies, zeros, ℕ, ◌++◌, ◌+◌, ◌∙◌, ◌∷◌, ◌≡◌, gives_value, HasValueBefore, init_of, Lowered, Contains, IsPlace}
 use Rattle.std.proofs.lemmas.{Bool.cases_Bool, Bool.false≢true, List.Elements.All-contains, List.Elements.All-from_recursion, List.Elements.recursion_from_All}
 use Rattle.sj_base.proofs.{Lists.each-weaker, Lists.map-agree, Numbers.none_more}
 use Rattle.sj_core.proofs.Readiness.{Contains-filter}
 use Rattle.sj_plan.proofs.Lists.{each-filter}
 use Rattle.sj_phases.proofs.Lists.{all-from}
-use Rattle.sj_lower.proofs.{Contents.contents-next, Contents.contents_before, Contents.first_worker, Contents.held-other, Contents.held-same, Contents.task_at, Copying.by_copies, Copying.copies-copied, Copying.IsNoCopy, Copying.laid-copied, Doing.cell-size, Doing.holds-task, Doing.IsReady, Doing.kernel_there, Doing.ready-held, Doing.the_cell, Folding.after_row, Folding.contents-rows, Folding.Stand, Folding.stand-append, Filling.gives_own, Good.AreGood, Good.cell-there, Good.good-append, Good.good_init, Good.good_task, Keeping.differs, Keeping.HasCells, Keeping.HaveRoots, Keeping.holds-later, Keeping.root-kept, Operands.Contributes, Operands.contributes-there, Operands.none-filter, Operands.one-unit, Operands.opening_by, Operands.placed-at, Operands.valued-at, Taken.cell-inside, Taken.cell-is, Taken.cells-apart, Taken.taken-as}
+use Rattle.sj_lower.proofs.{Contents.contents-next, Contents.contents_before, Contents.first_worker, Contents.held-other, Contents.held-same, Contents.task_at, Copying.by_copies, Copying.copies-copied, Copying.IsNoCopy, Copying.laid-copied, Doing.cell-size, Doing.holds-task, Doing.IsReady, Doing.kernel_there, Doing.ready-held, Doing.the_cell, Folding.after_row, Folding.contents-rows, Folding.Stand, Folding.stand-append, Filling.gives_own, Good.AreGood, Good.cell-there, Good.good-append, Good.good_init, Good.good_task, Keeping.differs, Keeping.HasCells, Keeping.held-kept, Keeping.HaveRoots, Keeping.holds-later, Keeping.root-kept, Operands.Contributes, Operands.contributes-there, Operands.none-filter, Operands.one-unit, Operands.opening_by, Operands.placed-at, Operands.valued-at, Taken.cell-inside, Taken.cell-is, Taken.cells-apart, Taken.taken-as}
 
 -- what holds of each holds of those that pass
 pub each-kept : {X : Type 0} (P : X → Type 0) (p : X → Bool) (xs : List X) → AllByRecursion P xs → AllByRecursion P (filter p xs)
@@ -59,18 +59,12 @@ holds-blank q C n k rs u a laid has p blank m lives =
     let o = has u.name p.lives in
     let r = root_at rs m in
     let s = root_at rs u.name in
-    record {
-      fits = b.fits;
-      whole = b.whole;
-      first = b.first;
-      taken = b.taken;
-      held = λ place inside v.
-          let h = b.held place inside v in
-          let other : the_cell rs C u ≡ cell_of C m r.parts place → ⊥ = λ e.
-          (let same = cells-apart C u.name m s.dims r.dims s.parts r.parts o.first b.first u.place place laid o.taken b.taken p.place inside e in
-          false≢true (sym blank ∙ (λ i. is_valued_child (root_at rs (same.0 i)) (same.2 i)) ∙ v)) in
-          record { value = held-other q (the_cell rs C u) a k (cell_of C m r.parts place) (differs (the_cell rs C u) (cell_of C m r.parts place) other) ∙ h.value; given = h.given };
-    }
+    let held = λ (place : ℕ × ℕ) (inside : IsPlace r.parts place) (v : is_valued_child r place ≡ true).
+    (let c = cell_of C m r.parts place in
+    held-kept q n n k ((the_cell rs C u, a) ∷ k) c (child_array r place) (omega arith) (held-other q (the_cell rs C u) a k c (differs (the_cell rs C u) c (λ e.
+    let same = cells-apart C u.name m s.dims r.dims s.parts r.parts o.first b.first u.place place laid o.taken b.taken p.place inside e in
+    false≢true (sym blank ∙ (λ i. is_valued_child (root_at rs (same.0 i)) (same.2 i)) ∙ v)))) (b.held place inside v)) in
+    record { fits = b.fits; whole = b.whole; first = b.first; taken = b.taken; held = held }
 
 -- the units of a contribution are good, and before task m, behind them, are the roots and the children that are contributed to
 record AreUnits (q : Program) (D : Laid) (n m : ℕ) (rs : List RootState) (us : List (Operand ℕ)) (ls : List Lowered) : Type 0 where
@@ -80,31 +74,28 @@ record AreUnits (q : Program) (D : Laid) (n m : ℕ) (rs : List RootState) (us :
 
 module _ (has : Kernel → Bool) (q : Program) (D : Laid) (n : ℕ) (rs : List RootState) (t : TaskLine ℕ) (line : Line) (s : IsSoundTaskAt has rs t) (cells : HasCells q D) (laid : AreLaid D) (roots : HaveRoots q D n (contents_before q n) rs) where
   module _ (con : Contributes rs t (kernel_there has rs t s).call.kernel) where
-    abbrev u : Operand ℕ
-    u = con.last
-
     abbrev r : RootState
-    r = root_at rs u.name
+    r = root_at rs con.last.name
 
     abbrev c : Cell
-    c = the_cell rs D u
+    c = the_cell rs D con.last
 
     -- what the contribution adds to
-    seen : (v : Bool) → has_value rs u ≡ v → cond v (child_array r u.place) (child_unit r u.place) ≡ seen_by u.mode r u.place
-    seen v e = sym (ap (λ (m : Mode). seen_by m r u.place) con.redux ∙ ap (λ b. cond b (child_array r u.place) (child_unit r u.place)) e)
+    seen : (v : Bool) → has_value rs con.last ≡ v → cond v (child_array r con.last.place) (child_unit r con.last.place) ≡ seen_by con.last.mode r con.last.place
+    seen v e = sym (ap (λ (m : Mode). seen_by m r con.last.place) con.redux ∙ ap (λ b. cond b (child_array r con.last.place) (child_unit r con.last.place)) e)
 
-    by_valued : (v : Bool) → has_value rs u ≡ v → let ls = cond v [] (init_row con.by line c ∷ []) in Stand q n ls → AreUnits q D n (n + length ls) rs (u ∷ []) ls
-    by_valued true valued stand = subst (λ m. AreUnits q D n m rs (u ∷ []) []) (sym (none_more n)) (
-      let h = (roots u.name con.placed.lives).held u.place con.placed.place valued in record { good = tt; roots = roots; ready = (((λ f. h.value ∙ seen true valued), h.given), tt) })
+    by_valued : (v : Bool) → has_value rs con.last ≡ v → let ls = cond v [] (init_row con.by line c ∷ []) in Stand q n ls → AreUnits q D n (n + length ls) rs (con.last ∷ []) ls
+    by_valued true valued stand = subst (λ m. AreUnits q D n m rs (con.last ∷ []) []) (sym (none_more n)) (
+        let h = (roots con.last.name con.placed.lives).held con.last.place con.placed.place valued in record { good = tt; roots = roots; ready = (((λ f. h.value ∙ seen true valued), h.given), tt) })
     by_valued false blank stand =
-        let b = roots u.name con.placed.lives in
+        let b = roots con.last.name con.placed.lives in
         let unit = unit_of out con.by (dims_of q c) in
-        let is_unit = ap (unit_of out con.by) (cell-size q D n (contents_before q n) rs u cells laid roots con.placed)
-            ∙ sym (ap (λ (o : Option Reduction). elim o as (λ _. Array) [ None ↦ zeros (rect_dims (child_rect r u.place)) | Some by ↦ unit_of out by (rect_dims (child_rect r u.place)) ]) con.reduction) in
+        let is_unit = ap (unit_of out con.by) (cell-size q D n (contents_before q n) rs con.last cells laid roots con.placed)
+        ∙ sym (ap (λ (o : Option Reduction). elim o as (λ _. Array) [ None ↦ zeros (rect_dims (child_rect r con.last.place)) | Some by ↦ unit_of out by (rect_dims (child_rect r con.last.place)) ]) con.reduction) in
         let left : contents_before q (n + 1) ≡ (c, unit) ∷ contents_before q n = contents-rows q n (init_row con.by line c ∷ []) stand ∙ after-init q (contents_before q n) con.by line c in
         record {
-          good = (good_init q n con.by line c (cell-there q D u.name r.dims r.parts b.first u.place cells laid b.taken con.placed.place), tt);
-          roots = subst (λ k. HaveRoots q D (n + 1) k rs) (sym left) (holds-later q D n (n + 1) ((c, unit) ∷ contents_before q n) rs (omega arith) (holds-blank q D n (contents_before q n) rs u unit laid roots con.placed blank));
+          good = (good_init q n con.by line c (cell-there q D con.last.name r.dims r.parts b.first con.last.place cells laid b.taken con.placed.place), tt);
+          roots = subst (λ k. HaveRoots q D (n + 1) k rs) (sym left) (holds-later q D n (n + 1) ((c, unit) ∷ contents_before q n) rs (omega arith) (holds-blank q D n (contents_before q n) rs con.last unit laid roots con.placed blank));
           ready = (((λ f. ap (λ k. held_in q k c) left ∙ held-same q c unit (contents_before q n) ∙ is_unit ∙ seen false blank), (task_at n, omega arith, ap (λ (x : Lowered). gives_value x c) stand.0 ∙ gives_own (init_of con.by) [] c line)), tt);
         }
 

@@ -171,17 +171,14 @@ module _ (p : Program) (C : Laid) (n : ℕ) (k : Contents) (rs : List RootState)
   all_accessed : (P : Access → Type 0) (os : List (Operand ℕ)) → ((o : Operand ℕ) → Contains os o → P (the_access rs C o)) → All P (Accessed os)
   all_accessed P os h = All-map P direct_access (each_of (access_of (by_number rs) C) os) (All-map (λ (a : Access). P (direct_access a)) (access_of (by_number rs) C) os (all-from (λ (o : Operand ℕ). P (the_access rs C o)) os h))
 
-  pair_reads : (o u : Operand ℕ) → IsPlacedAt rs o → IsPlacedAt rs u → clashes_at o u ≡ false → ReadOnly (the_access rs C o) (the_access rs C u)
-  pair_reads o u ho hu e same =
-      let reads = both-read p C n k rs o u laid has ho hu e (same_cell-is (the_cell rs C o) (the_cell rs C u) same) in
-      (direct-reads o.mode reads.0, direct-reads u.mode reads.1)
-
   all_apart : (os : List (Operand ℕ)) → AllByRecursion (IsPlacedAt rs) os → is_aliased_at os ≡ false → AllPairs ReadOnly (Accessed os)
   all_apart [] h e = λ i j d before within. absurd (omega arith)
   all_apart (o ∷ os) h e =
       let c = or_parts (list_any (clashes_at o) os) (is_aliased_at os) e in
-      AllPairs-cons ReadOnly (the_access rs C o) (Accessed os) (all_accessed (ReadOnly (the_access rs C o)) os (λ u among.
-      pair_reads o u h.0 (All-contains (IsPlacedAt rs) os u (All-from_recursion (IsPlacedAt rs) os h.1) among) (none-passes (clashes_at o) os c.0 u among))) (all_apart os h.1 c.1)
+      AllPairs-cons ReadOnly (the_access rs C o) (Accessed os) (all_accessed (ReadOnly (the_access rs C o)) os (λ u among same.
+      let placed = All-contains (IsPlacedAt rs) os u (All-from_recursion (IsPlacedAt rs) os h.1) among in
+      let reads = both-read p C n k rs o u laid has h.0 placed (none-passes (clashes_at o) os c.0 u among) (same_cell-is (the_cell rs C o) (the_cell rs C u) same) in
+      (direct-reads o.mode reads.0, direct-reads u.mode reads.1))) (all_apart os h.1 c.1)
 
   -- the task of a task line, where the child that it contributes to has a value
   pub good_task : (set : Kernel → Bool) (t : TaskLine ℕ) (line : Line) → IsSoundTaskAt set rs t → ((o : Operand ℕ) → Contains t.operands o → is_redux o.mode ≡ true → HasValueBefore p (task_at n) (the_cell rs C o)) → IsGood p n (direct (task_row (by_number rs) C t line))

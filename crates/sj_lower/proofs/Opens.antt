@@ -1,5 +1,5 @@
 -- Which phases a statement leaves open: those of children with values, whose roots have the reduction.
-use Rattle.sj_lower.proofs.Words.{[], Act, active_cells, AllByRecursion, ap, apply_at, area, arith, Array, Bool, by_number, Cell, cell_of, change_at, child_dims_at, closing, cond, Contains, contributed, Dims, each_of, flat_map, fold, get_or-set_other, handle_of, HasTakenPlan, inl, inr, Invalidates, is_child, is_redux, is_some, is_valued, is_valued_child, is_written, IsPlace, IsPlacedAt, IsSoundAt, IsSoundTaskAt, Kernel, Laid, length, length-append, Line, List, list_all, list_any, Lives, no_root, no_values, number, open_at, opening_for, OpenReductions, Operand, operand_array_at, operand_cell, Option, out, Parts, paste_row, pastes_of, places, plan_block, Plans, Prints, Program, put_all_at, Reduces, Reduction, refl, registered_root, Registers, root_at, RootState, run_task_at, same_cell, same_child_place, same_parts, shut_by, slice_set, Some, step_of, subst, sym, take, task_block, TaskBlock, TaskLine, Tasks, true, Unregisters, with_child, with_copies, with_elements, with_handle, with_opening, with_parts, with_print, with_reduction, with_shut, written_of, ℕ, ℤ, ◌&&◌, ◌++◌, ◌<◌, ◌∙◌, ◌∷◌, ◌≡◌}
+use Rattle.sj_lower.proofs.Words.{[], Act, active_cells, AllByRecursion, ap, apply_at, area, arith, Array, Bool, by_number, Cell, cell_of, change_at, child_dims_at, closing, cond, Contains, contributed, Dims, each_of, flat_map, fold, get_or-set_other, handle_of, HasTakenPlan, inl, inr, Invalidates, is_child, is_redux, is_some, is_valued, is_valued_child, is_written, IsPlace, IsPlacedAt, IsSoundAt, IsSoundTaskAt, Kernel, Laid, length, length-append, Line, List, list_all, list_any, Lives, no_root, no_values, number, open_at, opening_for, OpenReductions, Operand, operand_array_at, operand_cell, Option, out, Parts, paste_row, pastes_of, places, Plans, Prints, Program, put_all_at, Reduces, Reduction, refl, registered_root, Registers, root_at, RootState, run_task_at, same_cell, same_child_place, same_parts, shut_by, slice_set, Some, step_of, subst, sym, take, task_block, TaskBlock, TaskLine, Tasks, true, Unregisters, with_child, with_copies, with_elements, with_handle, with_opening, with_parts, with_print, with_reduction, with_shut, written_of, ℕ, ℤ, ◌&&◌, ◌++◌, ◌<◌, ◌∙◌, ◌∷◌, ◌≡◌}
 use Rattle.std.proofs.lemmas.{Bool.cases_Bool, Bool.cases_eq, Bool.cond_both, Bool.false≢true, List.get_or-map, List.length-map}
 use Rattle.sj_base.proofs.{Lists.each-weaker, SameIds.cell_of_number}
 use Rattle.sj_core.proofs.Readiness.{Contains-map}
@@ -79,7 +79,7 @@ open-puts : (C : Laid) (c : Cell) (by : Reduction) (m : ℕ) (place : ℕ × ℕ
 open-puts C c by m place (o ∷ os) (a ∷ xs) rs placed h =
     let next = change_at (with_child o.place a) o.name rs in
     let put = changed-each (with_child o.place a) o.name rs (λ i r. IsOpenAt C c by i place (root_at rs i) → IsOpenAt C c by i place r) placed.0.lives
-        (λ h. record { lives = h.lives; inside = h.inside; is = h.is; valued = child-put (root_at rs o.name) o.place place a placed.0.place h.inside h.valued; reduction = h.reduction }) (λ i h. h) in
+    (λ h. record { lives = h.lives; inside = h.inside; is = h.is; valued = child-put (root_at rs o.name) o.place place a placed.0.place h.inside h.valued; reduction = h.reduction }) (λ i h. h) in
     open-puts C c by m place os xs next (each-weaker (IsPlacedAt rs) (IsPlacedAt next) (λ u h. placed-put rs o a u placed.0.lives h) os placed.1) (put m h)
 open-puts C c by m place os xs rs placed h = h
 
@@ -104,21 +104,18 @@ module _ (q : Program) (C : Laid) (rs : List RootState) (n : ℕ) (was : OpenRed
       record { number = h.number; place = h.place; at = open-puts D c by h.number h.place (written_of t.operands) outs rs (each-kept (IsPlacedAt rs) (λ o. is_written o.mode) t.operands s.placed) h.at }
 
   module _ (con : Contributes rs t (kernel_there set rs t s).call.kernel) where
-    abbrev u : Operand ℕ
-    u = con.last
-
     abbrev its : Cell
-    its = the_cell rs D u
+    its = the_cell rs D con.last
 
-    opened-child : (ys : List Array) → outs ≡ ys → all_dims ys ≡ child_dims_at rs u ∷ [] → IsOpenChild D new its con.by
+    opened-child : (ys : List Array) → outs ≡ ys → all_dims ys ≡ child_dims_at rs con.last ∷ [] → IsOpenChild D new its con.by
     opened-child [] e h = absurd (let m : 0 ≡ 1 = ap length h in omega (arith, m))
     opened-child (a ∷ xs) e h =
-        let run : new ≡ change_at (with_child u.place a) u.name rs = ap (λ os. put_all_at os outs rs) con.written ∙ ap (λ ys. put_all_at (u ∷ []) ys rs) e in
-        let now = ap (λ (rs : List RootState). root_at rs u.name) run ∙ changed-here (with_child u.place a) u.name rs con.placed.lives in
+        let run : new ≡ change_at (with_child con.last.place a) con.last.name rs = ap (λ os. put_all_at os outs rs) con.written ∙ ap (λ ys. put_all_at (con.last ∷ []) ys rs) e in
+        let now = ap (λ (rs : List RootState). root_at rs con.last.name) run ∙ changed-here (with_child con.last.place a) con.last.name rs con.placed.lives in
         record {
-          number = u.name;
-          place = u.place;
-          at = subst (IsOpenAt D its con.by u.name u.place) (sym now) (record { lives = con.placed.lives; inside = con.placed.place; is = refl; valued = written-valued (root_at rs u.name) u.place a con.placed.place; reduction = con.reduction });
+          number = con.last.name;
+          place = con.last.place;
+          at = subst (IsOpenAt D its con.by con.last.name con.last.place) (sym now) (record { lives = con.placed.lives; inside = con.placed.place; is = refl; valued = written-valued (root_at rs con.last.name) con.last.place a con.placed.place; reduction = con.reduction });
         }
 
     gift-opens : AreOpenChildren D new (open_at was b)
@@ -148,39 +145,32 @@ kept-child q C D rs n was m d p c by g t h =
     let b = g.roots h.number h.at.lives in
     kept-cell C D h.number r.dims r.parts b.first h.place b.taken (t.kept h.number r.dims r.parts b.first b.taken)
 
-plan-opens : (q : Program) (C : Laid) (rs : List RootState) (n : ℕ) (was : OpenReductions) (line : Line) (m : ℕ) (p : Parts) → Lives rs m → Agrees q C rs n was
-    → AreOpenChildren (take m p C) (change_at (with_parts p) m rs) (open_at was (plan_block (root_at rs m) (active_cells (by_number rs) C m) (take m p C) m p line))
-plan-opens q C rs n was line m p lives g =
-    let r = root_at rs m in
-    let D = take m p C in
-    let new = change_at (with_parts p) m rs in
-    let old = active_cells (by_number rs) C m in
-    let t = takes-planned q C rs n was m p lives g in
-    cond_both (same_parts r.parts p) (closing line [] []) (closing line old (cond (is_valued r) (each_of (paste_row (cell_of D m r.parts) (cell_of D m p) line) (pastes_of r.dims r.parts p)) [])) (λ (b : TaskBlock). AreOpenChildren D new (open_at was b))
-    (λ e c by is.
-    (let h = g.opens c by is in
-    let stays = changed-each (with_parts p) m rs (λ i x. x ≡ root_at rs i) lives (λ j. with_parts (sym (parts-are r.parts p e) j) r) (λ i. refl) h.number in
-    child-moved C D rs new c by h stays (kept-child q C D rs n was m r.dims p c by g t h)))
-    (λ e c by is. (let h = g.opens c by (shut-less old was c by is) in child-moved C D rs new c by h (changed-beside (with_parts p) m h.number rs (other-root C rs was m c by is h)) (kept-child q C D rs n was m r.dims p c by g t h)))
-
 -- another root is changed, whose active cells are closed
 closed-opens : (q : Program) (C : Laid) (rs new : List RootState) (n : ℕ) (was : OpenReductions) (m : ℕ) → Agrees q C rs n was → ((i : ℕ) → (i ≡ m → ⊥) → root_at new i ≡ root_at rs i) → AreOpenChildren C new (fold with_shut was (active_cells (by_number rs) C m))
 closed-opens q C rs new n was m g others c by is =
     let h = g.opens c by (shut-less (active_cells (by_number rs) C m) was c by is) in
     child-moved C C rs new c by h (others h.number (other-root C rs was m c by is h)) refl
 
-register-opens : (q : Program) (C : Laid) (rs : List RootState) (n : ℕ) (was : OpenReductions) (x : RootState) (d : Dims) (p : Parts) → Agrees q C rs n was → AreOpenChildren (take (length C.handles) p (with_handle d C)) (rs ++ x ∷ []) was
-register-opens q C rs n was x d p g c by is =
-    let h = g.opens c by is in
-    let D = take (length C.handles) p (with_handle d C) in
-    child-moved C D rs (rs ++ x ∷ []) c by h (pushed-beside rs x h.number (λ same. omega (arith, same, lives-below rs h.number h.at.lives))) (kept-child q C D rs n was (length C.handles) d p c by g (takes-registered C d p) h)
-
 pub opens-step : (has : Kernel → Bool) (q : Program) → OpensStep has q
 opens-step has q C rs n was s sound at = by_act s.act sound at
   where
     by_act : (a : Act ℕ) → IsSoundAt has rs a → IsAt q C rs n was (record { line = s.line; act = a }) → let x = step_of q.workers (by_number rs) C s.line a in AreOpenChildren x.laid (apply_at a rs) (open_at was x.block)
-    by_act (Registers r) sound at = register-opens q C rs n was (registered_root r) r.dims r.parts at.agrees
-    by_act (Plans m p) sound at = plan-opens q C rs n was s.line m p sound.0.lives at.agrees
+    by_act (Registers r) sound at = λ c by is.
+        (let h = at.agrees.opens c by is in
+        let m = length C.handles in
+        child-moved C (take m r.parts (with_handle r.dims C)) rs (rs ++ registered_root r ∷ []) c by h (pushed-beside rs (registered_root r) h.number (λ same. omega (arith, same, at.agrees.counted, lives-below rs h.number h.at.lives)))
+        (kept-child q C (take m r.parts (with_handle r.dims C)) rs n was m r.dims r.parts c by at.agrees (takes-registered C r.dims r.parts) h))
+    by_act (Plans m p) sound at =
+        let r = root_at rs m in
+        let D = take m p C in
+        let new = change_at (with_parts p) m rs in
+        let old = active_cells (by_number rs) C m in
+        let kept = λ (c : Cell) (by : Reduction) (h : IsOpenChild C rs c by). kept-child q C D rs n was m r.dims p c by at.agrees (takes-planned q C rs n was m p sound.0.lives at.agrees) h in
+        cond_both (same_parts r.parts p) (closing s.line [] []) (closing s.line old (cond (is_valued r) (each_of (paste_row (cell_of D m r.parts) (cell_of D m p) s.line) (pastes_of r.dims r.parts p)) [])) (λ (b : TaskBlock). AreOpenChildren D new (open_at was b))
+        (λ e c by is.
+        (let h = at.agrees.opens c by is in
+        child-moved C D rs new c by h (changed-each (with_parts p) m rs (λ i x. x ≡ root_at rs i) sound.0.lives (λ j. with_parts (sym (parts-are r.parts p e) j) r) (λ i. refl) h.number) (kept c by h)))
+        (λ e c by is. (let h = at.agrees.opens c by (shut-less old was c by is) in child-moved C D rs new c by h (changed-beside (with_parts p) m h.number rs (other-root C rs was m c by is h)) (kept c by h)))
     by_act (Reduces m by) sound at = λ c other is.
         (let h = at.agrees.opens c other is in
         child-moved C C rs (change_at (with_reduction by) m rs) c other h (changed-beside (with_reduction by) m h.number rs (λ same. none_isn't other (sym sound.1 ∙ ap (λ i. (root_at rs i).reduction) (sym same) ∙ h.at.reduction))) refl)

@@ -84,17 +84,13 @@ module _ (p : Program) (D : Laid) (was : OpenReductions) (line : Line) (cells : 
       → IsOrderly p was (closing line cs (each_of (paste_row (cell_of D m s) (cell_of D m t) line) (pastes_of d s t)))
   orderly-pastes m d s t f g cs old new closed fresh =
       let row = paste_row (cell_of D m s) (cell_of D m t) line in
+      let opens = fold with_shut was cs in
       let between = each-flat_map (IsPasteBetween d s t) (pastes_to d s t) (places t) (each-places (λ to. AllByRecursion (IsPasteBetween d s t) (pastes_to d s t to)) t (pastes-between d s t)) in
-      quiet-block p was line cs (each_of row (pastes_of d s t)) (each-map (IsQuiet p (fold with_shut was cs)) row (pastes_of d s t) (each-weaker (IsPasteBetween d s t) (λ x. IsQuiet p (fold with_shut was cs) (row x)) pasted (pastes_of d s t) between))
-    where
-      pasted : (x : Paste) → IsPasteBetween d s t x → IsQuiet p (fold with_shut was cs) (paste_row (cell_of D m s) (cell_of D m t) line x)
-      pasted x b = (
-        All-from_recursion (IsBeside p (fold with_shut was cs)) (access R (cell_of D m s x.from) ∷ access (cond (is_first x) W RW) (cell_of D m t x.to) ∷ []) (
-          record { plain = plain-child p D m d s f x.from cells copies laid old b.from; direct = refl; shut = shuts cs was (cell_of D m s x.from) (inl (closed x.from b.from)) },
-          (record { plain = plain-child p D m d t g x.to cells copies laid new b.to; direct = cond_both (is_first x) W RW (λ (mode : Mode). is_redux mode ≡ false) (λ e. refl) (λ e. refl); shut = shuts cs was (cell_of D m t x.to) (inr (fresh x.to b.to)) }, tt),
-        ),
-        (λ e. absurd (cc)),
-      )
+      let pasted = λ (x : Paste) (b : IsPasteBetween d s t x). All-from_recursion (IsBeside p opens) (access R (cell_of D m s x.from) ∷ access (cond (is_first x) W RW) (cell_of D m t x.to) ∷ []) (
+        record { plain = plain-child p D m d s f x.from cells copies laid old b.from; direct = refl; shut = shuts cs was (cell_of D m s x.from) (inl (closed x.from b.from)) },
+        (record { plain = plain-child p D m d t g x.to cells copies laid new b.to; direct = cond_both (is_first x) W RW (λ (mode : Mode). is_redux mode ≡ false) (λ e. refl) (λ e. refl); shut = shuts cs was (cell_of D m t x.to) (inr (fresh x.to b.to)) }, tt),
+      ) in
+      quiet-block p was line cs (each_of row (pastes_of d s t)) (each-map (IsQuiet p opens) row (pastes_of d s t) (each-weaker (IsPasteBetween d s t) (λ x. IsQuiet p opens (row x)) (λ x b. (pasted x b, λ e. absurd (cc))) (pastes_of d s t) between))
 
 -- ---- task lines
 
@@ -123,9 +119,9 @@ module _ (p : Program) (D : Laid) (n : ℕ) (k : Contents) (rs : List RootState)
       let task : IsOrderlyTask p opens l = record {
         plain = All-map (λ (a : Access). IsPlain p a.cell) (access_of (by_number rs) D) t.operands (all-from (λ (o : Operand ℕ). IsPlain p (the_cell rs D o)) t.operands plain);
         shut = all-from (λ (a : Access). not (is_redux a.mode) ≡ true → opens a.cell ≡ None) (data_operands l) (λ a h mode.
-          (let o = map-from (access_of (by_number rs) D) t.operands a (Contains-from_filter (λ (x : Access). not (is_scratch x.mode)) l.accesses a h) in
-          let data' = ap (λ (x : Access). is_data x.mode) o.2 ∙ filter-Contains (λ (x : Access). not (is_scratch x.mode)) l.accesses a h in
-          subst (λ (x : Access). opens x.cell ≡ None) o.2 (none o.0 o.1 data' (not-true (is_redux o.0.mode) (ap (λ (x : Access). not (is_redux x.mode)) o.2 ∙ mode)))));
+            (let o = map-from (access_of (by_number rs) D) t.operands a (Contains-from_filter (λ (x : Access). not (is_scratch x.mode)) l.accesses a h) in
+            let data' = ap (λ (x : Access). is_data x.mode) o.2 ∙ filter-Contains (λ (x : Access). not (is_scratch x.mode)) l.accesses a h in
+            subst (λ (x : Access). opens x.cell ≡ None) o.2 (none o.0 o.1 data' (not-true (is_redux o.0.mode) (ap (λ (x : Access). not (is_redux x.mode)) o.2 ∙ mode)))));
         contributes = All-map (λ (a : Access). is_redux a.mode ≡ true → ContributesTo opens l a.cell) (access_of (by_number rs) D) t.operands (all-from (λ (o : Operand ℕ). is_redux o.mode ≡ true → ContributesTo opens l (the_cell rs D o)) t.operands gifts);
       } in
       record { tasks = All-from_recursion (IsOrderlyTask p opens) (l ∷ []) (task, tt); openings = openings; delivered = delivered-quiet (l ∷ []) (All-from_recursion IsOther (l ∷ []) (s.silent, tt)) }
@@ -139,11 +135,8 @@ module _ (p : Program) (D : Laid) (n : ℕ) (k : Contents) (rs : List RootState)
 
   -- a contribution
   module _ (con : Contributes rs t (kernel_there set rs t s).call.kernel) (copied : (f : Cell) × ((info_at D (the_cell rs D con.last)).partials ≡ Some f)) where
-    abbrev u : Operand ℕ
-    u = con.last
-
     abbrev c : Cell
-    c = the_cell rs D u
+    c = the_cell rs D con.last
 
     one_open : open_at was b ≡ with_opening (shut_by was b) (opening_by con D)
     one_open = ap (fold with_opening (shut_by was b)) (one-opens con D)
@@ -153,14 +146,14 @@ module _ (p : Program) (D : Laid) (n : ℕ) (k : Contents) (rs : List RootState)
     apart o h direct = false_from_ne_true (same_cell c (the_cell rs D o)) (λ e.
         (let same = same_cell-is c (the_cell rs D o) e in
         let its = placed-at set rs t s o h in
-        let unread = λ (r : is_read_only u.mode ≡ true). false≢true (ap is_read_only (sym con.redux) ∙ r) in
-        elim (AllPairs-two (λ (v w : Operand ℕ). clashes_at v w ≡ false) t.operands o u (none-clash t.operands s.apart) h (last-there con)) [
+        let unread = λ (r : is_read_only con.last.mode ≡ true). false≢true (ap is_read_only (sym con.redux) ∙ r) in
+        elim (AllPairs-two (λ (v w : Operand ℕ). clashes_at v w ≡ false) t.operands o con.last (none-clash t.operands s.apart) h (last-there con)) [
           | inl one ↦ false≢true (sym direct ∙ ap (λ (x : Operand ℕ). is_redux x.mode) one ∙ ap is_redux con.redux)
-          | inr clear ↦ elim clear [ inl e ↦ unread (both-read p D n k rs o u laid has its con.placed e (sym same)).1 | inr e ↦ unread (both-read p D n k rs u o laid has con.placed its e same).0 ]
+          | inr clear ↦ elim clear [ inl e ↦ unread (both-read p D n k rs o con.last laid has its con.placed e (sym same)).1 | inr e ↦ unread (both-read p D n k rs con.last o laid has con.placed its e same).0 ]
         ]))
 
     gives : Contains l.accesses (access Redux c)
-    gives = subst (λ (m : Mode). Contains l.accesses (access m c)) con.redux (Contains-map (access_of (by_number rs) D) t.operands u (last-there con))
+    gives = subst (λ (m : Mode). Contains l.accesses (access m c)) con.redux (Contains-map (access_of (by_number rs) D) t.operands con.last (last-there con))
 
     gift : ContributesTo (open_at was b) l c
     gift =
@@ -178,9 +171,9 @@ module _ (p : Program) (D : Laid) (n : ℕ) (k : Contents) (rs : List RootState)
     goes_on : (by : Reduction) → shut_by was b c ≡ Some by → ((opening_by con D).valued ≡ true) × (con.by ≡ by)
     goes_on by e =
         let child = opened c by (shut-less b.closes was c by e) in
-        let r = has u.name con.placed.lives in
+        let r = has con.last.name con.placed.lives in
         let w = has child.number child.at.lives in
-        let one = cells-apart D child.number u.name (root_at rs child.number).dims (root_at rs u.name).dims (root_at rs child.number).parts (root_at rs u.name).parts w.first r.first child.place u.place laid w.taken r.taken child.at.inside con.placed.place (sym child.at.is) in
+        let one = cells-apart D child.number con.last.name (root_at rs child.number).dims (root_at rs con.last.name).dims (root_at rs child.number).parts (root_at rs con.last.name).parts w.first r.first child.place con.last.place laid w.taken r.taken child.at.inside con.placed.place (sym child.at.is) in
         (sym ((λ i. is_valued_child (root_at rs (one.0 i)) (one.2 i))) ∙ child.at.valued, some_is con.by by (sym con.reduction ∙ ap (λ m. (root_at rs m).reduction) (sym one.0) ∙ child.at.reduction))
 
     pub orderly-gift : IsOrderly p was b

@@ -60,19 +60,20 @@ module _ (has : Kernel → Bool) (q : Program) (C : Laid) (rs : List RootState) 
       let D = fold (with_copies q.workers) C (each_of (operand_cell (by_number rs) C) (contributed t)) in
       let handles = fold-handles q.workers (each_of (operand_cell (by_number rs) C) (contributed t)) C in
       let roots = roots-copied q C D n (contents_before q n) rs handles g.roots in
-      let opened = copied-opens C D rs was handles g.opens in
-      (good-line has q D n rs t line s at.cells k.laid roots at.stand, elim (cases_Bool (list_any (λ (o : Operand ℕ). is_redux o.mode) t.operands)) [
-        | inl some ↦
-            let con = contributes-there has rs t s some in
-            let u = con.last in
-            let c = the_cell rs C u in
-            let b = g.roots u.name con.placed.lives in
-            let inside = cell-inside C u.name (root_at rs u.name).dims (root_at rs u.name).parts b.first u.place g.laid b.taken con.placed.place in
-            let one : D ≡ with_copies q.workers C c = ap (λ us. fold (with_copies q.workers) C (each_of (operand_cell (by_number rs) C) us)) con.contributed in
-            orderly-gift q D n (contents_before q n) rs was line at.cells k.laid k.copies roots opened has t s con
-            (first_copy_in C c, (λ i. (info_at (one i) (same-cells C D handles u.name (root_at rs u.name).parts u.place i)).partials) ∙ copied-first q.workers c C inside)
-        | inr none ↦ orderly-direct q D n (contents_before q n) rs was line at.cells k.laid k.copies roots opened has t s none
-      ])
+      let opened = copied-opens C D rs was handles g.opens in (
+        good-line has q D n rs t line s at.cells k.laid roots at.stand,
+        elim (cases_Bool (list_any (λ (o : Operand ℕ). is_redux o.mode) t.operands)) [
+          | inl some ↦
+              let con = contributes-there has rs t s some in
+              let c = the_cell rs C con.last in
+              let b = g.roots con.last.name con.placed.lives in
+              let inside = cell-inside C con.last.name (root_at rs con.last.name).dims (root_at rs con.last.name).parts b.first con.last.place g.laid b.taken con.placed.place in
+              let one : D ≡ with_copies q.workers C c = ap (λ us. fold (with_copies q.workers) C (each_of (operand_cell (by_number rs) C) us)) con.contributed in
+              orderly-gift q D n (contents_before q n) rs was line at.cells k.laid k.copies roots opened has t s con
+              (first_copy_in C c, (λ i. (info_at (one i) (same-cells C D handles con.last.name (root_at rs con.last.name).parts con.last.place i)).partials) ∙ copied-first q.workers c C inside)
+          | inr none ↦ orderly-direct q D n (contents_before q n) rs was line at.cells k.laid k.copies roots opened has t s none
+        ],
+      )
   fine-step (Prints m) s at k =
       let g = at.agrees in
       let r = root_at rs m in

@@ -141,10 +141,10 @@ turns_by q C m r s line closed n f cells laid b t even =
     (λ valued stand.
     let other : r.parts ≡ s → ⊥ = λ e. false≢true (sym changed ∙ ap (same_parts r.parts) (sym e) ∙ parts-itself r.parts) in
     let filled = pastes-filled q d r.parts s old new (root_array r) line (contents_before q n) b.fits fit
-        (λ from at. (b.held from at (valued-child r from b.whole valued at)).value ∙ child-window r from)
-        (λ to at. cell-dims q C m d s f to cells laid t at)
-        (λ to at from there. differs (new to) (old from) (λ e. other (sym (cells-apart C m m d d s r.parts f b.first to from laid t b.taken at there e).1)))
-        (own_cells C m d s f laid t) in
+    (λ from at. (b.held from at (valued-child r from b.whole valued at)).value ∙ child-window r from)
+    (λ to at. cell-dims q C m d s f to cells laid t at)
+    (λ to at from there. differs (new to) (old from) (λ e. other (sym (cells-apart C m m d d s r.parts f b.first to from laid t b.taken at there e).1)))
+    (own_cells C m d s f laid t) in
     subst (λ ls. Turns q C m (with_parts s r) ls n) (sym same)
     (turns_filled q C m (with_parts s r) pastes n (subst (Stand q n) same stand) (record { value = λ place inside. filled.value place inside ∙ sym (child-window (with_parts s r) place); others = filled.others })
     (λ place inside. ap (λ ls. one_gives ls (new place)) (rows-by_child d r.parts s old new line) ∙ blocks-give (rows_to d r.parts s old new line) s place (new place) inside (pastes-give d r.parts s old new line place b.fits fit inside))))

@@ -25,11 +25,6 @@ keeps-set q C rs n m x there a copies has counted now =
     let roots = holds-changed q C n (contents_before q n) rs (set rs m x) m x (get_or-set_same rs m x no_root (lives-below rs m there)) (λ u other. get_or-set_other rs m u x no_root other) now (λ u other lives. has u lives) in
     record { laid = a; copies = copies; roots = subst (λ (k : ℕ). HaveRoots q C k (contents_before q k) (set rs m x)) (sym (none_more n)) roots; counted = counted ∙ sym (length-set rs m x) }
 
-blank-root : (q : Program) (C : Laid) (n : ℕ) (k : Contents) (m : ℕ) (r : RootState) → HasRoot q C n k m r → HasRoot q C n k m (with_elements (no_values r.dims) r)
-blank-root q C n k m r o =
-    let whole : length (no_values r.dims) ≡ area r.dims = length-replicate (area r.dims) None in
-    record { fits = o.fits; whole = whole; first = o.first; taken = o.taken; held = λ place inside v. absurd (blank-child (with_elements (no_values r.dims) r) place whole (no_values-blank (area r.dims)) o.fits inside v) }
-
 -- ---- one statement more
 
 pub keeps-step : (has : Kernel → Bool) (q : Program) (C : Laid) (n : ℕ) (rs : List RootState) (line : Line) (a : Act ℕ) → IsSoundAt has rs a → AreLaid C → HaveCopies q.workers C → HaveRoots q C n (contents_before q n) rs → length C.handles ≡ length rs
@@ -81,7 +76,11 @@ keeps-step has q C n rs line (Prints m) s a copies roots counted cells stand =
       counted = counted;
     }
 keeps-step has q C n rs line (Invalidates m) s a copies roots counted cells stand =
-    keeps-set q C rs n m (with_elements (no_values (root_at rs m).dims) (root_at rs m)) s a copies roots counted (λ lives. blank-root q C n (contents_before q n) m (root_at rs m) (roots m s))
+    let o = roots m s in
+    let d = (root_at rs m).dims in
+    let x = with_elements (no_values d) (root_at rs m) in
+    let whole : length (no_values d) ≡ area d = length-replicate (area d) None in
+    keeps-set q C rs n m x s a copies roots counted (λ lives. record { fits = o.fits; whole = whole; first = o.first; taken = o.taken; held = λ place inside v. absurd (blank-child x place whole (no_values-blank (area d)) o.fits inside v) })
 keeps-step has q C n rs line (Unregisters m) s a copies roots counted cells stand = keeps-set q C rs n m no_root s a copies roots counted (λ lives. absurd (omega (arith, lives)))
 
 -- after one statement more
