@@ -1,4 +1,4 @@
--- Each task that a statement gives without phases is as a proper program has it.
+-- Each task that loads a child of a root is as a proper program has it.
 use Rattle.sj_lower.proofs.Words.{AreLaid, arith, cell_of, child, Dims, HasTakenPlan, Init, Laid, Line, load_rows, Parts, Program, ℕ}
 use Rattle.sj_lower.proofs.{Good.AreGood, Good.cell-there, Good.each-load, Good.good-all, Good.good_fill, Good.good_load, Good.IsGood, Keeping.cell-dims, Keeping.HasCells}
 

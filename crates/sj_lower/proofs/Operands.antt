@@ -44,7 +44,7 @@ module _ (has : Kernel → Bool) (rs : List RootState) (t : TaskLine ℕ) (s : I
   pub valued-at : needs_value o.mode ≡ true → has_value rs o ≡ true
   valued-at = implied (needs_value o.mode) (has_value rs o) (All-contains (λ (u : Operand ℕ). (not (needs_value u.mode) || has_value rs u) ≡ true) t.operands o (AllPass-from_list_all (λ (u : Operand ℕ). not (needs_value u.mode) || has_value rs u) t.operands s.valued) there)
 
--- the operand to which a task contributes is its last, and the only one that it writes
+-- the operand to which a task contributes is the only one that it writes
 pub record Contributes (rs : List RootState) (t : TaskLine ℕ) (kernel : Kernel) : Type 0 where
   pub last : Operand ℕ
   pub there : Contains t.operands last
