@@ -1,16 +1,20 @@
 -- What of a job's roots holds in the program without phases, before its task of a number.
-use Rattle.sj_lower.proofs.Words.{AreLaid, Cell, cell_of, HaveCopies, is_valued_child, IsPlace, Laid, length, List, Lives, OpenReductions, Program, Reduction, root_at, RootState, Some, true, ℕ, ◌≡◌}
+use Rattle.sj_lower.proofs.Words.{AreLaid, Cell, cell_of, HaveCopies, is_valued_child, IsPlace, Laid, length, List, OpenReductions, Program, Reduction, root_at, RootState, Some, true, ℕ, ◌≡◌, area, ◌<◌}
 use Rattle.sj_lower.proofs.{Contents.contents_before, Keeping.HasCells, Keeping.HaveRoots}
 
--- a cell whose phase is open is that of a child of its root's active plan, which has a value, and the root has that reduction
+-- the cell is that of a child of this root's active plan, which has a value, and the root has that reduction
+pub record IsOpenAt (C : Laid) (c : Cell) (by : Reduction) (m : ℕ) (place : ℕ × ℕ) (r : RootState) : Type 0 where
+  pub lives : 0 < area r.dims
+  pub inside : IsPlace r.parts place
+  pub is : c ≡ cell_of C m r.parts place
+  pub valued : is_valued_child r place ≡ true
+  pub reduction : r.reduction ≡ Some by
+
+-- a cell whose phase is open is such a child's
 pub record IsOpenChild (C : Laid) (rs : List RootState) (c : Cell) (by : Reduction) : Type 0 where
   pub number : ℕ
   pub place : ℕ × ℕ
-  pub lives : Lives rs number
-  pub inside : IsPlace (root_at rs number).parts place
-  pub is : c ≡ cell_of C number (root_at rs number).parts place
-  pub valued : is_valued_child (root_at rs number) place ≡ true
-  pub reduction : (root_at rs number).reduction ≡ Some by
+  pub at : IsOpenAt C c by number place (root_at rs number)
 
 abbrev pub AreOpenChildren : Laid → List RootState → OpenReductions → Type 0
 AreOpenChildren C rs was = (c : Cell) (by : Reduction) → was c ≡ Some by → IsOpenChild C rs c by

@@ -1,11 +1,12 @@
 -- Each task of the program without phases is as a proper program has it, by the roots' numbers.
-use Rattle.sj_lower.proofs.Words.{[], Access, access, access_of, All, AllByRecursion, AllPairs, ap, area, AreLaid, arith, array, BeginOnce, Bool, by_number, Cell, cell_of, child, child_dims_at, clashes_at, Contains, Contents, Deliver, deliver_row, Dims, dims_of, direct, direct_access, direct_mode, each_of, element, false, Fill, fill_arguments, fill_row, fits, FitsCodelet, flat_map, gives_value, HasTakenPlan, HasValueBefore, Init, init_of, init_row, inl, inr, int_le, is_aliased_at, is_first, is_read_only, is_redux, is_scratch, IsPasteBetween, IsPlace, IsPlacedAt, IsPlain, IsSoundTaskAt, IsUnaliased, Kernel, kernel_of, Laid, Least, length, Line, List, list_all, list_any, Load, load_row, load_rows, LoadFill, Lowered, MayHaveModes, Mode, needs_value, not, Nothing, Operand, own_modes, own_task, Parts, Paste, paste_arguments, paste_copy, paste_row, PasteKernel, pastes_of, pastes_to, places, PlanFits, Plus, pos, Program, R, reads_value, Rect, rect_dims, Reduction, refl, root_at, RootState, RW, same_cell, Scratch, Some, subst, sym, task_of, task_row, TaskLine, true, Values, W, window, ℕ, ℤ, ◌&&◌, ◌++◌, ◌+◌, ◌<◌, ◌||◌, ◌∙◌, ◌∷◌, ◌≡◌, ◌≤◌}
+use Rattle.sj_lower.proofs.Words.{[], Access, access, access_of, All, AllByRecursion, AllPairs, ap, area, AreLaid, arith, array, BeginOnce, Bool, by_number, Cell, cell_of, child, child_dims_at, clashes_at, Contains, Contents, Deliver, deliver_row, Dims, dims_of, direct, direct_access, direct_mode, each_of, element, false, Fill, fill_arguments, fill_row, fits, FitsCodelet, flat_map, gives_value, HasTakenPlan, HasValueBefore, Init, init_of, init_row, inl, inr, int_le, is_aliased_at, is_first, is_read_only, is_redux, is_scratch, IsPasteBetween, IsPlace, IsPlacedAt, IsPlain, IsSoundTaskAt, IsUnaliased, Kernel, kernel_of, Laid, Least, length, Line, List, list_all, list_any, Load, load_row, load_rows, LoadFill, Lowered, MayHaveModes, Mode, needs_value, not, Nothing, Operand, own_modes, own_task, Parts, Paste, paste_arguments, paste_copy, paste_row, PasteKernel, pastes_of, pastes_to, places, Plus, pos, Program, R, reads_value, Rect, rect_dims, Reduction, refl, root_at, RootState, RW, Some, subst, sym, task_of, task_row, TaskLine, true, Values, W, window, ℕ, ℤ, ◌&&◌, ◌++◌, ◌+◌, ◌<◌, ◌||◌, ◌∙◌, ◌∷◌, ◌≡◌, ◌≤◌, cond}
 use Rattle.std.proofs.lemmas.{Bool.and_from, Bool.cases_lt, Bool.cond_both, Bool.Decides.Decides-eqb, Bool.false≢true, Bool.le-leb, Bool.or_cases, Bool.or_parts, List.Elements.All-contains, List.Elements.All-from_recursion, List.Elements.All-map, List.Kept.AllPairs-cons, List.Kept.AllPairs-filter, Option.same_Some}
-use Rattle.sj_base.proofs.{Lists.map-agree, Numbers.length_more, Numbers.none_more, Tables.length-table}
+use Rattle.sj_base.proofs.{Bools.implied, Lists.map-agree, Numbers.length_more, Numbers.none_more, Tables.length-table}
+use Rattle.sj_core.proofs.Modes.{every_mode}
 use Rattle.sj_codelet.proofs.Table.{kernel_of-codelet_of}
 use Rattle.sj_plan.proofs.Lists.{each-map, each-places, pairs-from_ordered}
 use Rattle.sj_phases.proofs.{Good.ReadOnly, Lists.all-from}
-use Rattle.sj_lower.proofs.{Contents.same_cell-is, Contents.task_at, Doing.cell-size, Doing.kernel_there, Doing.the_access, Doing.the_cell, Folding.later, Folding.Stand, Folding.stand-append, Keeping.HasCells, Keeping.HaveRoots, Modes.plain-modes, Operands.both-read, Operands.contributes-there, Operands.none-passes, Operands.placed-at, Operands.valued-at, Pasting.GoesTo, Pasting.paste-gives, Pasting.pastes-begin, Pasting.pastes-between, Pasting.pastes-go, Pasting.rows-by_child, Pasting.rows_to, Taken.cell-inside}
+use Rattle.sj_lower.proofs.{Contents.same_cell-is, Contents.task_at, Doing.cell-size, Doing.kernel_there, Doing.the_access, Doing.the_cell, Folding.later, Folding.Stand, Folding.stand-append, Keeping.cell-dims, Keeping.HasCells, Keeping.HaveRoots, Modes.plain-modes, Operands.both-read, Operands.contributes-there, Operands.none-passes, Operands.placed-at, Operands.valued-at, Pasting.GoesTo, Pasting.paste-gives, Pasting.pastes-begin, Pasting.pastes-between, Pasting.pastes-go, Pasting.rows-by_child, Pasting.rows_to, Taken.cell-inside, Taken.cells-apart}
 use mathlib.Core.List.{map-map}
 
 -- a task of the program is one that it may have at that number
@@ -23,22 +24,13 @@ abbrev pub AreGood : Program → ℕ → List Lowered → Type 0
 AreGood p n [] = Unit {0}
 AreGood p n (l ∷ ls) = IsGood p n l × AreGood p (n + 1) ls
 
-pub good-later : (p : Program) (m n : ℕ) (l : Lowered) → m ≤ n → IsGood p m l → IsGood p n l
-good-later p m n l h g = record {
-  cells = g.cells;
-  fits = g.fits;
-  unaliased = g.unaliased;
-  values = λ k d inside e. later p m n _ h (g.values k d inside e);
-  plain = g.plain;
-}
-
--- tasks that all may stand at the first number
-good-each : (p : Program) (m n : ℕ) (ls : List Lowered) → m ≤ n → AllByRecursion (IsGood p m) ls → AreGood p n ls
-good-each p m n [] h g = tt
-good-each p m n (l ∷ ls) h g = (good-later p m n l h g.0, good-each p m (n + 1) ls (omega arith) g.1)
-
-pub good-all : (p : Program) (n : ℕ) (ls : List Lowered) → AllByRecursion (IsGood p n) ls → AreGood p n ls
-good-all p n ls g = good-each p n n ls (omega arith) g
+-- tasks that all may stand at a number before
+pub good-all : (p : Program) (m n : ℕ) (ls : List Lowered) → m ≤ n → AllByRecursion (IsGood p m) ls → AreGood p n ls
+good-all p m n [] h g = tt
+good-all p m n (l ∷ ls) h g = (
+  record { cells = g.0.cells; fits = g.0.fits; unaliased = g.0.unaliased; values = λ k d inside e. later p m n _ h (g.0.values k d inside e); plain = g.0.plain },
+  good-all p m (n + 1) ls (omega arith) g.1,
+)
 
 pub good-append : (p : Program) (n : ℕ) (xs ys : List Lowered) → AreGood p n xs → AreGood p (n + length xs) ys → AreGood p n (xs ++ ys)
 good-append p n [] ys g h = subst (λ (m : ℕ). AreGood p m ys) (none_more n) h
@@ -113,63 +105,56 @@ paste_fits d s t x o w h eo ew =
     ap (λ (o : Dims). fits PasteKernel (paste_arguments x) (o ∷ w ∷ [])) eo ∙ ap (λ (w : Dims). fits PasteKernel (paste_arguments x) (rect_dims (child d s x.from) ∷ w ∷ [])) ew
     ∙ and_from _ _ (and_from _ _ (counts_pass x.at_from.0 x.at_from.1 x.at_to.0 x.at_to.1 x.rows x.cols) (and_from _ _ (le-leb _ _ h.in_old.0) (le-leb _ _ h.in_old.1))) (and_from _ _ (le-leb _ _ h.in_new.0) (le-leb _ _ h.in_new.1))
 
--- what pastes between these cells stand on
-pub record CanPaste (p : Program) (n : ℕ) (d : Dims) (s t : Parts) (old new : ℕ × ℕ → Cell) : Type 0 where
-  pub from_inside : (from : ℕ × ℕ) → IsPlace s from → (old from).0 < length p.cells
-  pub to_inside : (to : ℕ × ℕ) → IsPlace t to → (new to).0 < length p.cells
-  pub from_dims : (from : ℕ × ℕ) → IsPlace s from → dims_of p (old from) ≡ rect_dims (child d s from)
-  pub to_dims : (to : ℕ × ℕ) → IsPlace t to → dims_of p (new to) ≡ rect_dims (child d t to)
-  pub apart : (from to : ℕ × ℕ) → IsPlace s from → IsPlace t to → same_cell (old from) (new to) ≡ false
-  pub given : (from : ℕ × ℕ) → IsPlace s from → HasValueBefore p (task_at n) (old from)
+-- the pastes of a plan line, where both plans are taken, they are two, and the old children have values
+module _ (p : Program) (D : Laid) (n m : ℕ) (d : Dims) (s t : Parts) (f g : ℕ) (line : Line) (cells : HasCells p D) (laid : AreLaid D) (was : HasTakenPlan D m d s f) (now : HasTakenPlan D m d t g) (two : s ≡ t → ⊥) (given : (x : ℕ × ℕ) → IsPlace s x → HasValueBefore p (task_at n) (cell_of D m s x)) where
+  abbrev row : Paste → Lowered
+  row = paste_row (cell_of D m s) (cell_of D m t) line
 
--- a paste in this mode, where what it reads has a value
-good_as : (p : Program) (n m : ℕ) (d : Dims) (s t : Parts) (old new : ℕ × ℕ → Cell) (line : Line) (x : Paste) (mode : Mode) → MayHaveModes PasteKernel (R ∷ mode ∷ []) → CanPaste p n d s t old new → n ≤ m → IsPasteBetween d s t x → (reads_value mode ≡ true → HasValueBefore p (task_at m) (new x.to))
-    → IsGood p m (own_task PasteKernel (paste_arguments x) (access R (old x.from) ∷ access mode (new x.to) ∷ []) line)
-good_as p n m d s t old new line x mode modes can h b had =
-    let as' : List Access = access R (old x.from) ∷ access mode (new x.to) ∷ [] in
-    let fit = paste_fits d s t x (dims_of p (old x.from)) (dims_of p (new x.to)) b (can.from_dims x.from b.from) (can.to_dims x.to b.to) in
-    record {
-      cells = All-from_recursion (λ (a : Access). a.cell.0 < length p.cells) as' (can.from_inside x.from b.from, (can.to_inside x.to b.to, tt));
-      fits = record { kernel = PasteKernel; codelet = refl; operands = fit; modes = modes };
-      unaliased = AllPairs-filter ReadOnly (λ (a : Access). not (is_scratch a.mode)) as' (pairs-from_ordered ReadOnly as' (((λ same. absurd (false≢true (sym (can.apart x.from x.to b.from b.to) ∙ same))), tt), (tt, tt)));
-      values = All-from_recursion (λ (a : Access). reads_value a.mode ≡ true → HasValueBefore p (task_at m) a.cell) as' ((λ reads. later p n m (old x.from) h (can.given x.from b.from)), (had, tt));
-      plain = λ e. absurd (cc);
-    }
+  -- a paste to a child that has a value, unless this is the first one to it
+  good_paste : (k : ℕ) (x : Paste) → n ≤ k → IsPasteBetween d s t x → (is_first x ≡ false → HasValueBefore p (task_at k) (cell_of D m t x.to)) → IsGood p k (row x)
+  good_paste k x h b had =
+      let old = cell_of D m s x.from in
+      let new = cell_of D m t x.to in
+      let as' : List Access = access R old ∷ access (cond (is_first x) W RW) new ∷ [] in
+      record {
+        cells = All-from_recursion (λ (a : Access). a.cell.0 < length p.cells) as' (cell-there p D m d s f x.from cells laid was b.from, (cell-there p D m d t g x.to cells laid now b.to, tt));
+        fits = record {
+          kernel = PasteKernel;
+          codelet = refl;
+          operands = paste_fits d s t x (dims_of p old) (dims_of p new) b (cell-dims p D m d s f x.from cells laid was b.from) (cell-dims p D m d t g x.to cells laid now b.to);
+          modes = cond_both (is_first x) W RW (λ (mode : Mode). MayHaveModes PasteKernel (R ∷ mode ∷ [])) (λ e. MayHaveModes.FirstPaste refl refl) (λ e. MayHaveModes.Own refl);
+        };
+        unaliased = AllPairs-filter ReadOnly (λ (a : Access). not (is_scratch a.mode)) as' (pairs-from_ordered ReadOnly as' (((λ same. absurd (two (cells-apart D m m d d s t f g x.from x.to laid was now b.from b.to (same_cell-is old new same)).1)), tt), (tt, tt)));
+        values = All-from_recursion (λ (a : Access). reads_value a.mode ≡ true → HasValueBefore p (task_at k) a.cell) as'
+            ((λ reads. later p n k old h (given x.from b.from)), (cond_both (is_first x) W RW (λ (mode : Mode). reads_value mode ≡ true → HasValueBefore p (task_at k) new) (λ e reads. absurd (false≢true reads)) (λ e reads. had e), tt));
+        plain = λ e. absurd (cc);
+      }
 
--- a paste to a child that has a value, unless this is the first one to it
-good_paste : (p : Program) (n m : ℕ) (d : Dims) (s t : Parts) (old new : ℕ × ℕ → Cell) (line : Line) (x : Paste) → CanPaste p n d s t old new → n ≤ m → IsPasteBetween d s t x → (is_first x ≡ false → HasValueBefore p (task_at m) (new x.to)) → IsGood p m (paste_row old new line x)
-good_paste p n m d s t old new line x can h b had =
-    cond_both (is_first x) W RW (λ (mode : Mode). IsGood p m (own_task PasteKernel (paste_arguments x) (access R (old x.from) ∷ access mode (new x.to) ∷ []) line))
-    (λ first. good_as p n m d s t old new line x W (MayHaveModes.FirstPaste refl refl) can h b (λ reads. absurd (false≢true reads)))
-    (λ further. good_as p n m d s t old new line x RW (MayHaveModes.Own refl) can h b (λ reads. had further))
+  -- further pastes to a child that has a value
+  good_further : (k : ℕ) (to : ℕ × ℕ) (xs : List Paste) → n ≤ k → AllByRecursion (IsPasteBetween d s t) xs → AllByRecursion (GoesTo s to) xs → HasValueBefore p (task_at k) (cell_of D m t to) → AllByRecursion (IsGood p k) (each_of row xs)
+  good_further k to [] h bs gs had = tt
+  good_further k to (x ∷ xs) h bs gs had =
+      (good_paste k x h bs.0 (λ e. subst (λ (q : ℕ × ℕ). HasValueBefore p (task_at k) (cell_of D m t q)) (sym gs.0.1) had), good_further k to xs h bs.1 gs.1 had)
 
--- further pastes to a child that has a value
-good_further : (p : Program) (n m : ℕ) (d : Dims) (s t : Parts) (old new : ℕ × ℕ → Cell) (line : Line) (to : ℕ × ℕ) (xs : List Paste) → CanPaste p n d s t old new → n ≤ m → AllByRecursion (IsPasteBetween d s t) xs → AllByRecursion (GoesTo s to) xs → HasValueBefore p (task_at m) (new to) → AllByRecursion (IsGood p m) (each_of (paste_row old new line) xs)
-good_further p n m d s t old new line to [] can h bs gs had = tt
-good_further p n m d s t old new line to (x ∷ xs) can h bs gs had =
-    (good_paste p n m d s t old new line x can h bs.0 (λ e. subst (λ (q : ℕ × ℕ). HasValueBefore p (task_at m) (new q)) (sym gs.0.1) had), good_further p n m d s t old new line to xs can h bs.1 gs.1 had)
+  -- all pastes to a child, of which the first gives it a value
+  good_first : (k : ℕ) (to : ℕ × ℕ) (xs : List Paste) → n ≤ k → AllByRecursion (IsPasteBetween d s t) xs → AllByRecursion (GoesTo s to) xs → BeginOnce (each_of paste_copy xs) → Stand p k (each_of row xs) → AreGood p k (each_of row xs)
+  good_first k to [] h bs gs once stand = tt
+  good_first k to (x ∷ xs) h bs gs once stand =
+      let gives : HasValueBefore p (task_at (k + 1)) (cell_of D m t to) = (task_at k, omega arith, ap (λ (l : Lowered). gives_value l (cell_of D m t to)) stand.0 ∙ ap (λ (q : ℕ × ℕ). gives_value (row x) (cell_of D m t q)) (sym gs.0.1) ∙ paste-gives (cell_of D m s) (cell_of D m t) line x) in
+      (good_paste k x h bs.0 (λ e. absurd (false≢true (sym e ∙ once.0))), good-all p (k + 1) (k + 1) (each_of row xs) (omega arith) (good_further (k + 1) to xs (omega arith) bs.1 gs.1 gives))
 
--- all pastes to a child, of which the first gives it a value
-good_first : (p : Program) (n m : ℕ) (d : Dims) (s t : Parts) (old new : ℕ × ℕ → Cell) (line : Line) (to : ℕ × ℕ) (xs : List Paste) → CanPaste p n d s t old new → n ≤ m → AllByRecursion (IsPasteBetween d s t) xs → AllByRecursion (GoesTo s to) xs → BeginOnce (each_of paste_copy xs)
-    → Stand p m (each_of (paste_row old new line) xs) → AreGood p m (each_of (paste_row old new line) xs)
-good_first p n m d s t old new line to [] can h bs gs once stand = tt
-good_first p n m d s t old new line to (x ∷ xs) can h bs gs once stand =
-    let gives : HasValueBefore p (task_at (m + 1)) (new to) = (task_at m, omega arith, ap (λ (l : Lowered). gives_value l (new to)) stand.0 ∙ ap (λ (q : ℕ × ℕ). gives_value (paste_row old new line x) (new q)) (sym gs.0.1) ∙ paste-gives old new line x) in
-    (good_paste p n m d s t old new line x can h bs.0 (λ e. absurd (false≢true (sym e ∙ once.0))), good-all p (m + 1) (each_of (paste_row old new line) xs) (good_further p n (m + 1) d s t old new line to xs can (omega arith) bs.1 gs.1 gives))
-
--- the pastes of a plan line, child by child
-pub good_pastes : (q : Program) (n : ℕ) (d : Dims) (s t : Parts) (old new : ℕ × ℕ → Cell) (line : Line) → CanPaste q n d s t old new → PlanFits s d → PlanFits t d → Stand q n (each_of (paste_row old new line) (pastes_of d s t)) → AreGood q n (each_of (paste_row old new line) (pastes_of d s t))
-good_pastes q n d s t old new line can fs ft stand =
-    let by_child = rows-by_child d s t old new line in
-    subst (AreGood q n) (sym by_child) (good-blocks q n n (rows_to d s t old new line) (places t) (omega arith) (each-places (λ to. (k : ℕ) → n ≤ k → Stand q k (rows_to d s t old new line to) → AreGood q k (rows_to d s t old new line to)) t (λ to at k more st.
-    good_first q n k d s t old new line to (pastes_to d s t to) can more (pastes-between d s t to at) (pastes-go d s t to) (pastes-begin d s t to fs ft at) st)) (subst (Stand q n) by_child stand))
+  -- child by child
+  pub good_pastes : Stand p n (each_of row (pastes_of d s t)) → AreGood p n (each_of row (pastes_of d s t))
+  good_pastes stand =
+      let to_child = rows_to d s t (cell_of D m s) (cell_of D m t) line in
+      let by_child = rows-by_child d s t (cell_of D m s) (cell_of D m t) line in
+      subst (AreGood p n) (sym by_child) (good-blocks p n n to_child (places t) (omega arith) (each-places (λ to. (k : ℕ) → n ≤ k → Stand p k (to_child to) → AreGood p k (to_child to)) t (λ to at k more st.
+      good_first k to (pastes_to d s t to) more (pastes-between d s t to at) (pastes-go d s t to) (pastes-begin d s t to (laid.fits m d s f was) (laid.fits m d t g now) at) st)) (subst (Stand p n) by_child stand))
 
 -- ---- tasks of task lines
 
 found-needs : (m : Mode) → reads_value (direct_mode m) ≡ true → (needs_value m || is_redux m) ≡ true
-found-needs W h = absurd (false≢true h)
-found-needs Scratch h = absurd (false≢true h)
-found-needs m h = refl
+found-needs m = implied (reads_value (direct_mode m)) (needs_value m || is_redux m) (every_mode (λ x. not (reads_value (direct_mode x)) || (needs_value x || is_redux x)) refl m)
 
 direct-reads : (m : Mode) → is_read_only m ≡ true → direct_mode m ≡ R
 direct-reads R h = refl
@@ -186,17 +171,14 @@ module _ (p : Program) (C : Laid) (n : ℕ) (k : Contents) (rs : List RootState)
   all_accessed : (P : Access → Type 0) (os : List (Operand ℕ)) → ((o : Operand ℕ) → Contains os o → P (the_access rs C o)) → All P (Accessed os)
   all_accessed P os h = All-map P direct_access (each_of (access_of (by_number rs) C) os) (All-map (λ (a : Access). P (direct_access a)) (access_of (by_number rs) C) os (all-from (λ (o : Operand ℕ). P (the_access rs C o)) os h))
 
-  pair_reads : (o u : Operand ℕ) → IsPlacedAt rs o → IsPlacedAt rs u → clashes_at o u ≡ false → ReadOnly (the_access rs C o) (the_access rs C u)
-  pair_reads o u ho hu e same =
-      let reads = both-read p C n k rs o u laid has ho hu e (same_cell-is (the_cell rs C o) (the_cell rs C u) same) in
-      (direct-reads o.mode reads.0, direct-reads u.mode reads.1)
-
   all_apart : (os : List (Operand ℕ)) → AllByRecursion (IsPlacedAt rs) os → is_aliased_at os ≡ false → AllPairs ReadOnly (Accessed os)
   all_apart [] h e = λ i j d before within. absurd (omega arith)
   all_apart (o ∷ os) h e =
       let c = or_parts (list_any (clashes_at o) os) (is_aliased_at os) e in
-      AllPairs-cons ReadOnly (the_access rs C o) (Accessed os) (all_accessed (ReadOnly (the_access rs C o)) os (λ u among.
-      pair_reads o u h.0 (All-contains (IsPlacedAt rs) os u (All-from_recursion (IsPlacedAt rs) os h.1) among) (none-passes (clashes_at o) os c.0 u among))) (all_apart os h.1 c.1)
+      AllPairs-cons ReadOnly (the_access rs C o) (Accessed os) (all_accessed (ReadOnly (the_access rs C o)) os (λ u among same.
+      let placed = All-contains (IsPlacedAt rs) os u (All-from_recursion (IsPlacedAt rs) os h.1) among in
+      let reads = both-read p C n k rs o u laid has h.0 placed (none-passes (clashes_at o) os c.0 u among) (same_cell-is (the_cell rs C o) (the_cell rs C u) same) in
+      (direct-reads o.mode reads.0, direct-reads u.mode reads.1))) (all_apart os h.1 c.1)
 
   -- the task of a task line, where the child that it contributes to has a value
   pub good_task : (set : Kernel → Bool) (t : TaskLine ℕ) (line : Line) → IsSoundTaskAt set rs t → ((o : Operand ℕ) → Contains t.operands o → is_redux o.mode ≡ true → HasValueBefore p (task_at n) (the_cell rs C o)) → IsGood p n (direct (task_row (by_number rs) C t line))

@@ -1,12 +1,11 @@
--- The modes of a task's operands, by its roots' numbers, are modes that a program may have: with contributions, and without
--- phases.
+-- The modes of a task's operands, with contributions and without phases, are modes that a program may have.
 use Rattle.sj_lower.proofs.Words.{[], ap, arith, Bool, Commute, commutes_in, commutes_of, cond, Contains, count_by, direct_mode, each_of, false, Formal, FormalR, FormalRW, formals_of, FormalScratch, FormalW, inl, inr, is_commute, is_output, is_redux, is_unordered, is_written, IsSoundTaskAt, Kernel, length, List, list_all, list_any, MayHaveModes, Mode, mode_fits, mode_of, modes_fit_at, modes_writing_by, None, not, Operand, Option, R, Redux, refl, RootState, RW, Scratch, Some, subst, sym, TaskLine, true, W, writes_one, written_of, ℕ, ◌&&◌, ◌++◌, ◌||◌, ◌∙◌, ◌∷◌, ◌≡◌}
 use Rattle.std.proofs.lemmas.{Bool.and_parts, Bool.cases_Bool, Bool.false≢true, Bool.or_right, List.Sums.length-filter}
 use Rattle.sj_base.proofs.{Bools.implied, Lists.map-agree}
 use Rattle.sj_core.proofs.{Modes.commutes_is_written, Readiness.Contains-filter, Readiness.list_any-some, Updating.contributing-commutes, Updating.updates-last}
 use Rattle.sj_plan.proofs.Lists.{any-implied, count_by-map}
 use Rattle.sj_phases.proofs.Lists.{first-has, more-has, one-case}
-use Rattle.sj_lower.proofs.{Doing.kernel_there, Operands.Contributes, Operands.lawful-at, Operands.none-passes, Writing.writes_output}
+use Rattle.sj_lower.proofs.{Doing.kernel_there, Operands.Contributes, Operands.lawful-at, Operands.lone, Operands.none-passes, Writing.writes_output}
 use mathlib.Core.List.{map-map}
 
 -- ---- modes of task lines
@@ -55,10 +54,15 @@ is-commute : (m : Mode) → is_commute m ≡ true → m ≡ Commute
 is-commute Commute e = refl
 is-commute m e = absurd (false≢true e)
 
--- a list of one item has no two
-only-one : {X : Type 0} (xs : List X) (x y : X) → length xs ≡ 1 → Contains xs x → Contains xs y → x ≡ y
-only-one (u ∷ []) x y e h k = sym (one-case u x h) ∙ one-case u y k
-only-one xs x y e h k = absurd (omega (arith, e))
+-- the modes of a task where the one operand that is written has this mode
+written-modes : (x : Mode) (has : Kernel → Bool) (rs : List RootState) (t : TaskLine ℕ) (s : IsSoundTaskAt has rs t) (u : Operand ℕ) → written_of t.operands ≡ u ∷ [] → u.mode ≡ x
+    → writes_one (kernel_there has rs t s).call.kernel × (each_of (λ (o : Operand ℕ). o.mode) t.operands ≡ modes_writing_by x (kernel_there has rs t s).call.kernel)
+written-modes x has rs t s u written is =
+    let k = kernel_there has rs t s in (
+      outputs-count (formals_of k.call.kernel) t.operands k.modes k.count ∙ ap length written,
+      modes-with x (formals_of k.call.kernel) t.operands k.modes k.count (λ o h w.
+          ap (λ (u : Operand ℕ). u.mode) (sym (one-case u o (subst (λ (os : List (Operand ℕ)). Contains os o) written (Contains-filter (λ (u : Operand ℕ). is_written u.mode) t.operands o w h)))) ∙ is),
+    )
 
 -- the modes of a task without contributions; where an operand commutes, the codelet does
 direct-modes : (has : Kernel → Bool) (rs : List RootState) (t : TaskLine ℕ) (s : IsSoundTaskAt has rs t) → list_any (λ o. is_redux o.mode) t.operands ≡ false → MayHaveModes (kernel_there has rs t s).call.kernel (each_of (λ (o : Operand ℕ). o.mode) t.operands)
@@ -69,24 +73,18 @@ direct-modes has rs t s direct =
       | inl some ↦
           let found = list_any-some (λ (o : Operand ℕ). is_commute o.mode) t.operands some in
           let one = s.alone (any-implied (λ (o : Operand ℕ). is_commute o.mode) (λ (o : Operand ℕ). is_unordered o.mode) (λ o. or_right (is_redux o.mode) (is_commute o.mode)) t.operands some) in
-          let written = λ (o : Operand ℕ) (w : is_written o.mode ≡ true) (h : Contains t.operands o). Contains-filter (λ (u : Operand ℕ). is_written u.mode) t.operands o w h in
-          let its = written found.0 (commutes_is_written found.0.mode found.2) found.1 in
+          let written = lone (written_of t.operands) found.0 one (Contains-filter (λ (u : Operand ℕ). is_written u.mode) t.operands found.0 (commutes_is_written found.0.mode found.2) found.1) in
+          let its = written-modes Commute has rs t s found.0 written (is-commute found.0.mode found.2) in
           let commutes = implied (is_commute found.0.mode) (commutes_in has t.codelet) (and_parts (not (is_commute found.0.mode) || commutes_in has t.codelet) _ (lawful-at has rs t s found.0 found.1)).0 found.2 in
           let known = subst (λ (o : Option Kernel). (elim o as (λ _. Bool) [ None ↦ false | Some j ↦ has j && commutes_of j ]) ≡ true) k.call.is commutes in
-          MayHaveModes.Commuting (and_parts (has k.call.kernel) (commutes_of k.call.kernel) known).1 (outputs-count fs t.operands k.modes k.count ∙ one)
-          (modes-with Commute fs t.operands k.modes k.count (λ o h w. ap (λ (u : Operand ℕ). u.mode) (only-one (written_of t.operands) o found.0 one (written o w h) its) ∙ is-commute found.0.mode found.2))
+          MayHaveModes.Commuting (and_parts (has k.call.kernel) (commutes_of k.call.kernel) known).1 its.0 its.1
       | inr none ↦ MayHaveModes.Own (modes-by (λ (m : Mode). m) mode_of fs t.operands k.modes k.count (λ f o h fit.
           mode-own f o.mode fit (none-passes (λ (u : Operand ℕ). is_redux u.mode) t.operands direct o h) (none-passes (λ (u : Operand ℕ). is_commute u.mode) t.operands none o h)))
     ]
 
 -- the modes of one with a contribution, whose codelet writes one operand
 pub contribution-modes : (has : Kernel → Bool) (rs : List RootState) (t : TaskLine ℕ) (s : IsSoundTaskAt has rs t) (con : Contributes rs t (kernel_there has rs t s).call.kernel) → writes_one (kernel_there has rs t s).call.kernel × (each_of (λ (o : Operand ℕ). o.mode) t.operands ≡ modes_writing_by Redux (kernel_there has rs t s).call.kernel)
-contribution-modes has rs t s con =
-    let k = kernel_there has rs t s in (
-      outputs-count (formals_of k.call.kernel) t.operands k.modes k.count ∙ ap length con.written,
-      modes-with Redux (formals_of k.call.kernel) t.operands k.modes k.count (λ o h w.
-          ap (λ (u : Operand ℕ). u.mode) (sym (one-case con.last o (subst (λ (os : List (Operand ℕ)). Contains os o) con.written (Contains-filter (λ (u : Operand ℕ). is_written u.mode) t.operands o w h)))) ∙ con.redux),
-    )
+contribution-modes has rs t s con = written-modes Redux has rs t s con.last con.written con.redux
 
 -- without phases that one has its own modes
 modes-back : (fs : List Formal) → list_all (λ f. not (is_output f)) fs ≡ true → let ms = each_of mode_of (fs ++ FormalRW ∷ []) in each_of direct_mode (each_of (λ m. cond (is_written m) Redux m) ms) ≡ ms

@@ -1,10 +1,10 @@
 -- Which phases a statement leaves open: those of children with values, whose roots have the reduction.
-use Rattle.sj_lower.proofs.Words.{[], Act, active_cells, AllByRecursion, ap, apply_at, area, arith, Array, Bool, by_number, Cell, cell_of, change_at, child_dims_at, closing, cond, Contains, contributed, Dims, each_of, false, flat_map, fold, get_or-set_other, handle_of, HasTakenPlan, inl, inr, Invalidates, is_child, is_redux, is_some, is_valued, is_valued_child, is_written, IsPlace, IsPlacedAt, IsSoundAt, IsSoundTaskAt, Kernel, Laid, length, length-append, Line, List, list_all, list_any, Lives, no_root, no_values, number, open_at, opening_for, OpenReductions, Operand, operand_array_at, operand_cell, Option, out, Parts, paste_row, pastes_of, places, plan_block, Plans, Prints, Program, put_all_at, Reduces, Reduction, refl, registered_root, Registers, root_at, RootState, run_task_at, same_cell, same_child_place, same_parts, shut_by, slice_set, Some, step_of, subst, sym, take, task_block, TaskBlock, TaskLine, Tasks, true, Unregisters, with_child, with_copies, with_elements, with_handle, with_opening, with_parts, with_print, with_reduction, with_shut, written_of, ℕ, ℤ, ◌&&◌, ◌++◌, ◌<◌, ◌∙◌, ◌∷◌, ◌≡◌}
-use Rattle.std.proofs.lemmas.{Bool.cases_Bool, Bool.cases_eq, Bool.cond_both, Bool.false≢true, List.Elements.All-filter, List.Elements.All-from_recursion, List.Elements.recursion_from_All, List.get_or-map, List.length-map}
+use Rattle.sj_lower.proofs.Words.{[], Act, active_cells, AllByRecursion, ap, apply_at, area, arith, Array, Bool, by_number, Cell, cell_of, change_at, child_dims_at, closing, cond, Contains, contributed, Dims, each_of, flat_map, fold, get_or-set_other, handle_of, HasTakenPlan, inl, inr, Invalidates, is_child, is_redux, is_some, is_valued, is_valued_child, is_written, IsPlace, IsPlacedAt, IsSoundAt, IsSoundTaskAt, Kernel, Laid, length, length-append, Line, List, list_all, list_any, Lives, no_root, no_values, number, open_at, opening_for, OpenReductions, Operand, operand_array_at, operand_cell, Option, out, Parts, paste_row, pastes_of, places, Plans, Prints, Program, put_all_at, Reduces, Reduction, refl, registered_root, Registers, root_at, RootState, run_task_at, same_cell, same_child_place, same_parts, shut_by, slice_set, Some, step_of, subst, sym, take, task_block, TaskBlock, TaskLine, Tasks, true, Unregisters, with_child, with_copies, with_elements, with_handle, with_opening, with_parts, with_print, with_reduction, with_shut, written_of, ℕ, ℤ, ◌&&◌, ◌++◌, ◌<◌, ◌∙◌, ◌∷◌, ◌≡◌}
+use Rattle.std.proofs.lemmas.{Bool.cases_Bool, Bool.cases_eq, Bool.cond_both, Bool.false≢true, List.get_or-map, List.length-map}
 use Rattle.sj_base.proofs.{Lists.each-weaker, SameIds.cell_of_number}
 use Rattle.sj_core.proofs.Readiness.{Contains-map}
 use Rattle.sj_phases.proofs.{Expanded.shuts, Logging.by_which, Logging.phase-other, Logging.phase-own}
-use Rattle.sj_lower.proofs.{Agrees.Agrees, Agrees.AreOpenChildren, Agrees.IsOpenChild, Contributing.fold-handles, Contributing.same-cells, Doing.kernel_there, Doing.new_dims, Doing.the_cell, Elements.written-other, Elements.written-valued, Following.IsAt, Following.OpensStep, Keeping.changed-beside, Keeping.changed-here, Keeping.lives-below, Operands.Contributes, Operands.contributes-there, Operands.last-there, Operands.none-filter, Operands.one-opens, Operands.opening_by, Operands.placed-at, Orderly.shut-less, Places.length-places, Places.number-below, Places.parts-are, Places.place-is, Places.place-itself, Places.places-at, Starting.pushed-beside, Taken.cell-is, Taken.keeps-root, Taken.none_isn't, Taken.root-there, Taken.some_is, Taken.take-keeps, Taken.take-takes, Writing.all_dims}
+use Rattle.sj_lower.proofs.{Agrees.Agrees, Agrees.AreOpenChildren, Agrees.IsOpenAt, Agrees.IsOpenChild, Contributing.each-kept, Contributing.fold-handles, Contributing.same-cells, Doing.kernel_there, Doing.new_dims, Doing.the_cell, Elements.written-other, Elements.written-valued, Following.IsAt, Following.OpensStep, Keeping.changed-beside, Keeping.changed-here, Keeping.lives-below, Operands.Contributes, Operands.contributes-there, Operands.none-filter, Operands.one-opens, Operands.opening_by, Orderly.shut-less, Places.length-places, Places.number-below, Places.parts-are, Places.place-is, Places.place-itself, Places.places-at, Starting.pushed-beside, Taken.cell-is, Taken.keeps-root, Taken.none_isn't, Taken.root-there, Taken.some_is, Taken.take-keeps, Taken.take-takes, Writing.all_dims}
 
 -- ---- places and cells
 
@@ -34,41 +34,24 @@ takes-registered C d p =
     let t = take-takes E m p there in
     record { first = t.0; own = subst (λ (e : Dims). HasTakenPlan (take m p E) m e p t.0) (ap (λ h. h.dims) (root-there C d m refl)) t.1; kept = λ i e s f k. take-keeps E m p there i e s f (keeps-root C d i e s f k) }
 
--- dimensions, parts and reduction
-record SameShape (r s : RootState) : Type 0 where
-  dims : r.dims ≡ s.dims
-  parts : r.parts ≡ s.parts
-  reduction : r.reduction ≡ s.reduction
-
-same-shape : (r s : RootState) → r ≡ s → SameShape r s
-same-shape r s e = record { dims = ap (λ (x : RootState). x.dims) e; parts = ap (λ (x : RootState). x.parts) e; reduction = ap (λ (x : RootState). x.reduction) e }
-
--- a child with a value keeps one, and its root's shape
-record Keeps (new rs : List RootState) (m : ℕ) (place : ℕ × ℕ) : Type 0 where
-  shape : SameShape (root_at new m) (root_at rs m)
-  valued : is_valued_child (root_at new m) place ≡ true
-
-child-kept : (C D : Laid) (rs new : List RootState) (c : Cell) (by : Reduction) (h : IsOpenChild C rs c by) → Keeps new rs h.number h.place → cell_of C h.number (root_at rs h.number).parts h.place ≡ cell_of D h.number (root_at rs h.number).parts h.place → IsOpenChild D new c by
-child-kept C D rs new c by h k cell = record {
-  number = h.number;
-  place = h.place;
-  lives = subst (λ (d : Dims). 0 < area d) (sym k.shape.dims) h.lives;
-  inside = subst (λ (s : Parts). IsPlace s h.place) (sym k.shape.parts) h.inside;
-  is = h.is ∙ cell ∙ ap (λ (s : Parts). cell_of D h.number s h.place) (sym k.shape.parts);
-  valued = k.valued;
-  reduction = k.shape.reduction ∙ h.reduction;
-}
-
 -- a child whose root is the same, in the same cell
 pub child-moved : (C D : Laid) (rs new : List RootState) (c : Cell) (by : Reduction) (h : IsOpenChild C rs c by) → root_at new h.number ≡ root_at rs h.number → cell_of C h.number (root_at rs h.number).parts h.place ≡ cell_of D h.number (root_at rs h.number).parts h.place → IsOpenChild D new c by
-child-moved C D rs new c by h same cell = child-kept C D rs new c by h (record { shape = same-shape (root_at new h.number) (root_at rs h.number) same; valued = ap (λ (r : RootState). is_valued_child r h.place) same ∙ h.valued }) cell
+child-moved C D rs new c by h same cell = record {
+  number = h.number;
+  place = h.place;
+  at = subst (IsOpenAt D c by h.number h.place) (sym same) (record { lives = h.at.lives; inside = h.at.inside; is = h.at.is ∙ cell; valued = h.at.valued; reduction = h.at.reduction });
+}
+
+-- cells that only got partial copies
+pub copied-opens : (C D : Laid) (rs : List RootState) (was : OpenReductions) → D.handles ≡ C.handles → AreOpenChildren C rs was → AreOpenChildren D rs was
+copied-opens C D rs was e opens c by is = let h = opens c by is in child-moved C D rs rs c by h refl (sym (same-cells C D e h.number (root_at rs h.number).parts h.place))
 
 -- an open child is none of a root whose active cells are closed
 other-root : (C : Laid) (rs : List RootState) (was : OpenReductions) (q : ℕ) (c : Cell) (by : Reduction) → fold with_shut was (active_cells (by_number rs) C q) c ≡ Some by → (h : IsOpenChild C rs c by) → h.number ≡ q → ⊥
 other-root C rs was q c by e h same =
     let s = (root_at rs q).parts in
-    let at : IsPlace s h.place = subst (λ (m : ℕ). IsPlace (root_at rs m).parts h.place) same h.inside in
-    let here : cell_of C q s h.place ≡ c = ap (λ (m : ℕ). cell_of C m (root_at rs m).parts h.place) (sym same) ∙ sym h.is in
+    let at : IsPlace s h.place = subst (λ (m : ℕ). IsPlace (root_at rs m).parts h.place) same h.at.inside in
+    let here : cell_of C q s h.place ≡ c = ap (λ (m : ℕ). cell_of C m (root_at rs m).parts h.place) (sym same) ∙ sym h.at.is in
     none_isn't by (sym (shuts (active_cells (by_number rs) C q) was c (inl (subst (Contains (active_cells (by_number rs) C q)) here (Contains-map (cell_of C q s) (places s) h.place (place-in s h.place at))))) ∙ e)
 
 -- ---- a child that is put
@@ -80,11 +63,10 @@ changed-each f m rs P lives here all i = elim (cases_eq i m) [
   | inr other ↦ subst (P i) (sym (changed-beside f m i rs other)) (all i)
 ]
 
-shape-put : (rs : List RootState) (o : Operand ℕ) (a : Array) → Lives rs o.name → (m : ℕ) → SameShape (root_at (change_at (with_child o.place a) o.name rs) m) (root_at rs m)
-shape-put rs o a lives = changed-each (with_child o.place a) o.name rs (λ i r. SameShape r (root_at rs i)) lives (record { dims = refl; parts = refl; reduction = refl }) (λ i. same-shape (root_at rs i) (root_at rs i) refl)
-
 placed-put : (rs : List RootState) (o : Operand ℕ) (a : Array) (u : Operand ℕ) → Lives rs o.name → IsPlacedAt rs u → IsPlacedAt (change_at (with_child o.place a) o.name rs) u
-placed-put rs o a u lives h = let s = shape-put rs o a lives u.name in record { lives = subst (λ (d : Dims). 0 < area d) (sym s.dims) h.lives; place = subst (λ (x : Parts). IsPlace x u.place) (sym s.parts) h.place }
+placed-put rs o a u lives h =
+    let s = changed-each (with_child o.place a) o.name rs (λ i r. 0 < area (root_at rs i).dims → IsPlace (root_at rs i).parts u.place → (0 < area r.dims) × IsPlace r.parts u.place) lives (λ l p. (l, p)) (λ i l p. (l, p)) u.name h.lives h.place in
+    record { lives = s.0; place = s.1 }
 
 child-put : (r : RootState) (put place : ℕ × ℕ) (a : Array) → IsPlace r.parts put → IsPlace r.parts place → is_valued_child r place ≡ true → is_valued_child (with_child put a r) place ≡ true
 child-put r put place a into at v = elim (cases_Bool (same_child_place put place)) [
@@ -92,17 +74,14 @@ child-put r put place a into at v = elim (cases_Bool (same_child_place put place
   | inr other ↦ ap (λ es. is_child r.parts place && list_all (λ (e : Option ℤ). is_some e) es) (written-other r put place a into at (λ same. false≢true (sym other ∙ ap (same_child_place put) (sym same) ∙ place-itself put))) ∙ v
 ]
 
-valued-put : (rs : List RootState) (o : Operand ℕ) (a : Array) (place : ℕ × ℕ) → IsPlacedAt rs o → (m : ℕ) → IsPlace (root_at rs m).parts place → is_valued_child (root_at rs m) place ≡ true → is_valued_child (root_at (change_at (with_child o.place a) o.name rs) m) place ≡ true
-valued-put rs o a place placed =
-    changed-each (with_child o.place a) o.name rs (λ i r. IsPlace (root_at rs i).parts place → is_valued_child (root_at rs i) place ≡ true → is_valued_child r place ≡ true) placed.lives (child-put (root_at rs o.name) o.place place a placed.place) (λ i at v. v)
-
-keeps-puts : (os : List (Operand ℕ)) (xs : List Array) (rs : List RootState) (m : ℕ) (place : ℕ × ℕ) → AllByRecursion (IsPlacedAt rs) os → IsPlace (root_at rs m).parts place → is_valued_child (root_at rs m) place ≡ true → Keeps (put_all_at os xs rs) rs m place
-keeps-puts (o ∷ os) (a ∷ xs) rs m place placed at v =
+-- an open child stays one
+open-puts : (C : Laid) (c : Cell) (by : Reduction) (m : ℕ) (place : ℕ × ℕ) (os : List (Operand ℕ)) (xs : List Array) (rs : List RootState) → AllByRecursion (IsPlacedAt rs) os → IsOpenAt C c by m place (root_at rs m) → IsOpenAt C c by m place (root_at (put_all_at os xs rs) m)
+open-puts C c by m place (o ∷ os) (a ∷ xs) rs placed h =
     let next = change_at (with_child o.place a) o.name rs in
-    let s = shape-put rs o a placed.0.lives m in
-    let rest = keeps-puts os xs next m place (each-weaker (IsPlacedAt rs) (IsPlacedAt next) (λ u h. placed-put rs o a u placed.0.lives h) os placed.1) (subst (λ (x : Parts). IsPlace x place) (sym s.parts) at) (valued-put rs o a place placed.0 m at v) in
-    record { shape = record { dims = rest.shape.dims ∙ s.dims; parts = rest.shape.parts ∙ s.parts; reduction = rest.shape.reduction ∙ s.reduction }; valued = rest.valued }
-keeps-puts os xs rs m place placed at v = record { shape = same-shape (root_at rs m) (root_at rs m) refl; valued = v }
+    let put = changed-each (with_child o.place a) o.name rs (λ i r. IsOpenAt C c by i place (root_at rs i) → IsOpenAt C c by i place r) placed.0.lives
+    (λ h. record { lives = h.lives; inside = h.inside; is = h.is; valued = child-put (root_at rs o.name) o.place place a placed.0.place h.inside h.valued; reduction = h.reduction }) (λ i h. h) in
+    open-puts C c by m place os xs next (each-weaker (IsPlacedAt rs) (IsPlacedAt next) (λ u h. placed-put rs o a u placed.0.lives h) os placed.1) (put m h)
+open-puts C c by m place os xs rs placed h = h
 
 -- ---- task lines
 
@@ -121,39 +100,22 @@ module _ (q : Program) (C : Laid) (rs : List RootState) (n : ℕ) (was : OpenRed
 
   old : (c : Cell) (by : Reduction) → was c ≡ Some by → IsOpenChild D new c by
   old c by e =
-      let h = at.agrees.opens c by e in
-      let placed = recursion_from_All (IsPlacedAt rs) (written_of t.operands) (All-filter (λ (o : Operand ℕ). is_written o.mode) (IsPlacedAt rs) t.operands (All-from_recursion (IsPlacedAt rs) t.operands s.placed)) in
-      child-kept C D rs new c by h (keeps-puts (written_of t.operands) outs rs h.number h.place placed h.inside h.valued)
-      (sym (same-cells C D (fold-handles q.workers (each_of (operand_cell (by_number rs) C) (contributed t)) C) h.number (root_at rs h.number).parts h.place))
-
-  none-opens : list_any (λ o. is_redux o.mode) t.operands ≡ false → AreOpenChildren D new (open_at was b)
-  none-opens none c by e =
-      let quiet = ap (λ us. fold with_opening (shut_by was b) (flat_map (opening_for (by_number rs) D) us)) (none-filter t.operands none) in
-      old c by (shut-less b.closes was c by (ap (λ (f : OpenReductions). f c) (sym quiet) ∙ e))
+      let h = copied-opens C D rs was (fold-handles q.workers (each_of (operand_cell (by_number rs) C) (contributed t)) C) at.agrees.opens c by e in
+      record { number = h.number; place = h.place; at = open-puts D c by h.number h.place (written_of t.operands) outs rs (each-kept (IsPlacedAt rs) (λ o. is_written o.mode) t.operands s.placed) h.at }
 
   module _ (con : Contributes rs t (kernel_there set rs t s).call.kernel) where
-    abbrev u : Operand ℕ
-    u = con.last
-
     abbrev its : Cell
-    its = the_cell rs D u
+    its = the_cell rs D con.last
 
-    placed : IsPlacedAt rs u
-    placed = placed-at set rs t s u (last-there con)
-
-    opened-child : (ys : List Array) → outs ≡ ys → all_dims ys ≡ child_dims_at rs u ∷ [] → IsOpenChild D new its con.by
+    opened-child : (ys : List Array) → outs ≡ ys → all_dims ys ≡ child_dims_at rs con.last ∷ [] → IsOpenChild D new its con.by
     opened-child [] e h = absurd (let m : 0 ≡ 1 = ap length h in omega (arith, m))
     opened-child (a ∷ xs) e h =
-        let run : new ≡ change_at (with_child u.place a) u.name rs = ap (λ os. put_all_at os outs rs) con.written ∙ ap (λ ys. put_all_at (u ∷ []) ys rs) e in
-        let now = ap (λ (rs : List RootState). root_at rs u.name) run ∙ changed-here (with_child u.place a) u.name rs placed.lives in
+        let run : new ≡ change_at (with_child con.last.place a) con.last.name rs = ap (λ os. put_all_at os outs rs) con.written ∙ ap (λ ys. put_all_at (con.last ∷ []) ys rs) e in
+        let now = ap (λ (rs : List RootState). root_at rs con.last.name) run ∙ changed-here (with_child con.last.place a) con.last.name rs con.placed.lives in
         record {
-          number = u.name;
-          place = u.place;
-          lives = subst (λ (r : RootState). 0 < area r.dims) (sym now) placed.lives;
-          inside = subst (λ (r : RootState). IsPlace r.parts u.place) (sym now) placed.place;
-          is = ap (λ (r : RootState). cell_of D u.name r.parts u.place) (sym now);
-          valued = ap (λ (r : RootState). is_valued_child r u.place) now ∙ written-valued (root_at rs u.name) u.place a placed.place;
-          reduction = ap (λ (r : RootState). r.reduction) now ∙ con.reduction;
+          number = con.last.name;
+          place = con.last.place;
+          at = subst (IsOpenAt D its con.by con.last.name con.last.place) (sym now) (record { lives = con.placed.lives; inside = con.placed.place; is = refl; valued = written-valued (root_at rs con.last.name) con.last.place a con.placed.place; reduction = con.reduction });
         }
 
     gift-opens : AreOpenChildren D new (open_at was b)
@@ -169,7 +131,9 @@ module _ (q : Program) (C : Laid) (rs : List RootState) (n : ℕ) (was : OpenRed
   task-opens : AreOpenChildren D new (open_at was b)
   task-opens = elim (cases_Bool (list_any (λ (o : Operand ℕ). is_redux o.mode) t.operands)) [
     | inl some ↦ gift-opens (contributes-there set rs t s some)
-    | inr none ↦ none-opens none
+    | inr none ↦ λ c by e.
+        (let quiet = ap (λ us. fold with_opening (shut_by was b) (flat_map (opening_for (by_number rs) D) us)) (none-filter t.operands none) in
+        old c by (shut-less b.closes was c by (ap (λ (f : OpenReductions). f c) (sym quiet) ∙ e)))
   ]
 
 -- ---- all statements
@@ -178,23 +142,8 @@ module _ (q : Program) (C : Laid) (rs : List RootState) (n : ℕ) (was : OpenRed
 kept-child : (q : Program) (C D : Laid) (rs : List RootState) (n : ℕ) (was : OpenReductions) (m : ℕ) (d : Dims) (p : Parts) (c : Cell) (by : Reduction) → Agrees q C rs n was → Takes C D m d p → (h : IsOpenChild C rs c by) → cell_of C h.number (root_at rs h.number).parts h.place ≡ cell_of D h.number (root_at rs h.number).parts h.place
 kept-child q C D rs n was m d p c by g t h =
     let r = root_at rs h.number in
-    let b = g.roots h.number h.lives in
+    let b = g.roots h.number h.at.lives in
     kept-cell C D h.number r.dims r.parts b.first h.place b.taken (t.kept h.number r.dims r.parts b.first b.taken)
-
-plan-opens : (q : Program) (C : Laid) (rs : List RootState) (n : ℕ) (was : OpenReductions) (line : Line) (m : ℕ) (p : Parts) → Lives rs m → Agrees q C rs n was
-    → AreOpenChildren (take m p C) (change_at (with_parts p) m rs) (open_at was (plan_block (root_at rs m) (active_cells (by_number rs) C m) (take m p C) m p line))
-plan-opens q C rs n was line m p lives g =
-    let r = root_at rs m in
-    let D = take m p C in
-    let new = change_at (with_parts p) m rs in
-    let old = active_cells (by_number rs) C m in
-    let t = takes-planned q C rs n was m p lives g in
-    cond_both (same_parts r.parts p) (closing line [] []) (closing line old (cond (is_valued r) (each_of (paste_row (cell_of D m r.parts) (cell_of D m p) line) (pastes_of r.dims r.parts p)) [])) (λ (b : TaskBlock). AreOpenChildren D new (open_at was b))
-    (λ e c by is.
-    (let h = g.opens c by is in
-    let stays = changed-each (with_parts p) m rs (λ i x. x ≡ root_at rs i) lives (λ j. with_parts (sym (parts-are r.parts p e) j) r) (λ i. refl) h.number in
-    child-moved C D rs new c by h stays (kept-child q C D rs n was m r.dims p c by g t h)))
-    (λ e c by is. (let h = g.opens c by (shut-less old was c by is) in child-moved C D rs new c by h (changed-beside (with_parts p) m h.number rs (other-root C rs was m c by is h)) (kept-child q C D rs n was m r.dims p c by g t h)))
 
 -- another root is changed, whose active cells are closed
 closed-opens : (q : Program) (C : Laid) (rs new : List RootState) (n : ℕ) (was : OpenReductions) (m : ℕ) → Agrees q C rs n was → ((i : ℕ) → (i ≡ m → ⊥) → root_at new i ≡ root_at rs i) → AreOpenChildren C new (fold with_shut was (active_cells (by_number rs) C m))
@@ -202,21 +151,29 @@ closed-opens q C rs new n was m g others c by is =
     let h = g.opens c by (shut-less (active_cells (by_number rs) C m) was c by is) in
     child-moved C C rs new c by h (others h.number (other-root C rs was m c by is h)) refl
 
-register-opens : (q : Program) (C : Laid) (rs : List RootState) (n : ℕ) (was : OpenReductions) (x : RootState) (d : Dims) (p : Parts) → Agrees q C rs n was → AreOpenChildren (take (length C.handles) p (with_handle d C)) (rs ++ x ∷ []) was
-register-opens q C rs n was x d p g c by is =
-    let h = g.opens c by is in
-    let D = take (length C.handles) p (with_handle d C) in
-    child-moved C D rs (rs ++ x ∷ []) c by h (pushed-beside rs x h.number (λ same. omega (arith, same, lives-below rs h.number h.lives))) (kept-child q C D rs n was (length C.handles) d p c by g (takes-registered C d p) h)
-
 pub opens-step : (has : Kernel → Bool) (q : Program) → OpensStep has q
 opens-step has q C rs n was s sound at = by_act s.act sound at
   where
     by_act : (a : Act ℕ) → IsSoundAt has rs a → IsAt q C rs n was (record { line = s.line; act = a }) → let x = step_of q.workers (by_number rs) C s.line a in AreOpenChildren x.laid (apply_at a rs) (open_at was x.block)
-    by_act (Registers r) sound at = register-opens q C rs n was (registered_root r) r.dims r.parts at.agrees
-    by_act (Plans m p) sound at = plan-opens q C rs n was s.line m p sound.0.lives at.agrees
+    by_act (Registers r) sound at = λ c by is.
+        (let h = at.agrees.opens c by is in
+        let m = length C.handles in
+        child-moved C (take m r.parts (with_handle r.dims C)) rs (rs ++ registered_root r ∷ []) c by h (pushed-beside rs (registered_root r) h.number (λ same. omega (arith, same, at.agrees.counted, lives-below rs h.number h.at.lives)))
+        (kept-child q C (take m r.parts (with_handle r.dims C)) rs n was m r.dims r.parts c by at.agrees (takes-registered C r.dims r.parts) h))
+    by_act (Plans m p) sound at =
+        let r = root_at rs m in
+        let D = take m p C in
+        let new = change_at (with_parts p) m rs in
+        let old = active_cells (by_number rs) C m in
+        let kept = λ (c : Cell) (by : Reduction) (h : IsOpenChild C rs c by). kept-child q C D rs n was m r.dims p c by at.agrees (takes-planned q C rs n was m p sound.0.lives at.agrees) h in
+        cond_both (same_parts r.parts p) (closing s.line [] []) (closing s.line old (cond (is_valued r) (each_of (paste_row (cell_of D m r.parts) (cell_of D m p) s.line) (pastes_of r.dims r.parts p)) [])) (λ (b : TaskBlock). AreOpenChildren D new (open_at was b))
+        (λ e c by is.
+        (let h = at.agrees.opens c by is in
+        child-moved C D rs new c by h (changed-each (with_parts p) m rs (λ i x. x ≡ root_at rs i) sound.0.lives (λ j. with_parts (sym (parts-are r.parts p e) j) r) (λ i. refl) h.number) (kept c by h)))
+        (λ e c by is. (let h = at.agrees.opens c by (shut-less old was c by is) in child-moved C D rs new c by h (changed-beside (with_parts p) m h.number rs (other-root C rs was m c by is h)) (kept c by h)))
     by_act (Reduces m by) sound at = λ c other is.
         (let h = at.agrees.opens c other is in
-        child-moved C C rs (change_at (with_reduction by) m rs) c other h (changed-beside (with_reduction by) m h.number rs (λ same. none_isn't other (sym sound.1 ∙ ap (λ i. (root_at rs i).reduction) (sym same) ∙ h.reduction))) refl)
+        child-moved C C rs (change_at (with_reduction by) m rs) c other h (changed-beside (with_reduction by) m h.number rs (λ same. none_isn't other (sym sound.1 ∙ ap (λ i. (root_at rs i).reduction) (sym same) ∙ h.at.reduction))) refl)
     by_act (Tasks t) sound at = task-opens q C rs n was s.line has t sound at
     by_act (Prints m) sound at = λ c by is. (let h = at.agrees.opens c by (shut-less (active_cells (by_number rs) C m) was c by is) in child-moved C (with_print C) rs rs c by h refl refl)
     by_act (Invalidates m) sound at = closed-opens q C rs (change_at (λ r. with_elements (no_values r.dims) r) m rs) n was m at.agrees (λ i other. changed-beside (λ r. with_elements (no_values r.dims) r) m i rs other)

@@ -1,10 +1,10 @@
--- The operands of a task that contributes, by its roots' numbers: the last one gets the contribution, and those before it are
--- only read, scratch aside.
-use Rattle.sj_lower.proofs.Words.{[], AllByRecursion, AllPairs, ap, AreLaid, arith, Bool, by_number, clashes_at, Codelet, commutes_in, cond, Contains, Contents, contributed, contributes_in, contributes_of, false, filter, first_copy_in, first_units, flat_map, Formal, FormalR, FormalRW, FormalScratch, has_reduction, has_value, inl, inr, is_aliased_at, is_commute, is_lawful_for, is_output, is_read_only, is_redux, is_valued_child, is_written, IsPlacedAt, IsSoundTaskAt, Kernel, Laid, length, length-append, Line, List, list_all, list_any, Mode, mode_fits, modes_fit_at, nat_eq, needs_value, None, not, opening_for, Operand, Option, PhaseOpening, Program, R, Reduction, Redux, refl, root_at, RootState, same_child_place, Scratch, Some, subst, sym, task_block, TaskLine, true, units, written_of, ℕ, ◌&&◌, ◌++◌, ◌+◌, ◌||◌, ◌∙◌, ◌∷◌, ◌≡◌}
-use Rattle.std.proofs.lemmas.{Bool.and_parts, Bool.Decides.Decides-eqb, Bool.false_from_ne_true, Bool.false≢true, Bool.not-false, Bool.or_parts, List.append-nil, List.Elements.All-contains, List.Elements.All-from_recursion, List.Elements.Contains-push_cases, List.Folds.list_any_at, List.Kept.AllPairs-cons, List.Sums.AllPass-from_list_all}
+-- A task that contributes does so, by its roots' numbers, to the one operand that it writes.
+use Rattle.sj_lower.proofs.Words.{[], AllPairs, ap, AreLaid, arith, Bool, by_number, clashes_at, Codelet, commutes_in, cond, Contains, Contents, contributed, contributes_in, contributes_of, false, filter, first_copy_in, first_units, flat_map, has_reduction, has_value, is_aliased_at, is_commute, is_lawful_for, is_read_only, is_redux, is_valued_child, is_written, IsPlacedAt, IsSoundTaskAt, Kernel, Laid, length, Line, List, list_any, Mode, nat_eq, needs_value, None, not, opening_for, Operand, Option, PhaseOpening, Program, Reduction, Redux, refl, root_at, RootState, same_child_place, Some, subst, sym, task_block, TaskLine, true, units, written_of, ℕ, ◌&&◌, ◌++◌, ◌||◌, ◌∙◌, ◌∷◌, ◌≡◌, is_unordered}
+use Rattle.std.proofs.lemmas.{Bool.and_parts, Bool.Decides.Decides-eqb, Bool.false_from_ne_true, Bool.false≢true, Bool.not-false, Bool.or_parts, List.append-nil, List.Elements.All-contains, List.Elements.All-from_recursion, List.Folds.list_any_at, List.Kept.AllPairs-cons, List.Sums.AllPass-from_list_all}
 use Rattle.sj_base.proofs.{Bools.and_middle, Bools.and_rest, Bools.implied, Modes.redux-is}
-use Rattle.sj_core.proofs.{Readiness.Contains-filter, Readiness.list_any-some, Updating.contributing-commutes, Updating.updates-last}
-use Rattle.sj_phases.proofs.Lists.{all-from, filter-last, last-has, one-case}
+use Rattle.sj_core.proofs.{Readiness.Contains-filter, Readiness.list_any-some, TaskCells.filter-filter}
+use Rattle.sj_plan.proofs.Lists.{any-implied}
+use Rattle.sj_phases.proofs.Lists.{all-from, one-case}
 use Rattle.sj_lower.proofs.{Doing.kernel_there, Doing.the_cell, Keeping.HaveRoots, Places.place-itself, Taken.cells-apart}
 
 abbrev pub reduction_of : List RootState → ℕ → Option Reduction
@@ -13,30 +13,12 @@ reduction_of rs n = (root_at rs n).reduction
 abbrev pub is_lawful : (Kernel → Bool) → List RootState → Codelet → Operand ℕ → Bool
 is_lawful has rs id o = is_lawful_for has id (reduction_of rs o.name) o.mode
 
--- the operand is only read, or scratch
-abbrev pub IsRead : Operand ℕ → Type 0
-IsRead o = (is_redux o.mode ≡ false) × (is_written o.mode ≡ false) × (is_commute o.mode ≡ false)
+-- ---- lists
 
--- the operands before the last one are only read
-record EndsIn (os : List (Operand ℕ)) : Type 0 where
-  before : List (Operand ℕ)
-  last : Operand ℕ
-  is : os ≡ before ++ last ∷ []
-  reads : AllByRecursion IsRead before
-
-pub reads_only : (f : Formal) (m : Mode) → mode_fits f m ≡ true → not (is_output f) ≡ true → (is_redux m ≡ false) × (is_written m ≡ false) × (is_commute m ≡ false)
-reads_only FormalR R e h = (refl, refl, refl)
-reads_only FormalScratch Scratch e h = (refl, refl, refl)
-reads_only f m e h = absurd (cc)
-
-ends-in : (fs : List Formal) (f : Formal) (os : List (Operand ℕ)) → modes_fit_at (fs ++ f ∷ []) os ≡ true → length os ≡ length fs + 1 → list_all (λ g. not (is_output g)) fs ≡ true → EndsIn os
-ends-in [] f (o ∷ []) e l h = record { before = []; last = o; is = refl; reads = tt }
-ends-in (g ∷ fs) f (o ∷ os) e l h =
-    let m = and_parts (mode_fits g o.mode) (modes_fit_at (fs ++ f ∷ []) os) e in
-    let n = and_parts (not (is_output g)) (list_all (λ g. not (is_output g)) fs) h in
-    let rest = ends-in fs f os m.1 (omega (arith, l)) n.1 in
-    record { before = o ∷ rest.before; last = rest.last; is = ap (λ us. o ∷ us) rest.is; reads = (reads_only g o.mode m.0 n.0, rest.reads) }
-ends-in fs f os e l h = absurd (omega (arith, l))
+-- a list of one item
+pub lone : {X : Type 0} (xs : List X) (x : X) → length xs ≡ 1 → Contains xs x → xs ≡ x ∷ []
+lone (u ∷ []) x e h = ap (λ y. y ∷ []) (one-case u x h)
+lone xs x e h = absurd (omega (arith, e))
 
 -- ---- lists
 
@@ -62,12 +44,11 @@ module _ (has : Kernel → Bool) (rs : List RootState) (t : TaskLine ℕ) (s : I
   pub valued-at : needs_value o.mode ≡ true → has_value rs o ≡ true
   valued-at = implied (needs_value o.mode) (has_value rs o) (All-contains (λ (u : Operand ℕ). (not (needs_value u.mode) || has_value rs u) ≡ true) t.operands o (AllPass-from_list_all (λ (u : Operand ℕ). not (needs_value u.mode) || has_value rs u) t.operands s.valued) there)
 
--- the operand to which a task contributes is its last, and the only one that it writes
+-- the operand to which a task contributes is the only one that it writes
 pub record Contributes (rs : List RootState) (t : TaskLine ℕ) (kernel : Kernel) : Type 0 where
-  pub before : List (Operand ℕ)
   pub last : Operand ℕ
-  pub is : t.operands ≡ before ++ last ∷ []
-  pub reads : AllByRecursion IsRead before
+  pub there : Contains t.operands last
+  pub placed : IsPlacedAt rs last
   pub redux : last.mode ≡ Redux
   pub by : Reduction
   pub reduction : reduction_of rs last.name ≡ Some by
@@ -82,38 +63,33 @@ lawful-contribution has id (Some by) m law redux = (by, refl, implied (is_redux 
 
 pub contributes-there : (has : Kernel → Bool) (rs : List RootState) (t : TaskLine ℕ) (s : IsSoundTaskAt has rs t) → list_any (λ o. is_redux o.mode) t.operands ≡ true → Contributes rs t (kernel_there has rs t s).call.kernel
 contributes-there has rs t s any =
-    let kernel = kernel_there has rs t s in
-    let k = kernel.call.kernel in
+    let k = (kernel_there has rs t s).call in
     let found = list_any-some (λ (o : Operand ℕ). is_redux o.mode) t.operands any in
     let by = lawful-contribution has t.codelet (reduction_of rs found.0.name) found.0.mode (lawful-at has rs t s found.0 found.1) found.2 in
-    let contributes = and_middle (has k) (contributes_of k by.0) (has_reduction has by.0) (subst (λ (o : Option Kernel). (elim o as (λ _. Bool) [ None ↦ false | Some j ↦ has j && contributes_of j by.0 && has_reduction has by.0 ]) ≡ true) kernel.call.is by.2) in
-    let last_row = updates-last k (contributing-commutes k by.0 contributes) in
-    let e = ends-in last_row.first FormalRW t.operands (ap (λ fs. modes_fit_at fs t.operands) (sym last_row.formals) ∙ kernel.modes) (kernel.count ∙ ap length last_row.formals ∙ length-append last_row.first (FormalRW ∷ [])) last_row.read_only in
-    let read = λ (o : Operand ℕ) (h : Contains e.before o). All-contains IsRead e.before o (All-from_recursion IsRead e.before e.reads) h in
-    let same : e.last ≡ found.0 = elim (Contains-push_cases e.before e.last found.0 (subst (λ (os : List (Operand ℕ)). Contains os found.0) e.is found.1)) [
-      | inl first ↦ absurd (false≢true (sym (read found.0 first).0 ∙ found.2))
-      | inr last ↦ last
-    ] in
-    let redux = ap (λ (o : Operand ℕ). is_redux o.mode) same ∙ found.2 in
-    let mode = redux-is e.last.mode redux in
+    let mode = redux-is found.0.mode found.2 in
+    let one = s.alone (any-implied (λ (o : Operand ℕ). is_redux o.mode) (λ (o : Operand ℕ). is_unordered o.mode) (λ o e. ap (λ b. b || is_commute o.mode) e) t.operands any) in
+    let written = lone (written_of t.operands) found.0 one (Contains-filter (λ (o : Operand ℕ). is_written o.mode) t.operands found.0 (ap is_written mode) found.1) in
     record {
-      before = e.before;
-      last = e.last;
-      is = e.is;
-      reads = e.reads;
+      last = found.0;
+      there = found.1;
+      placed = placed-at has rs t s found.0 found.1;
       redux = mode;
       by = by.0;
-      reduction = ap (λ (o : Operand ℕ). reduction_of rs o.name) same ∙ by.1;
-      contributes = contributes;
-      written = ap (λ os. written_of os) e.is ∙ filter-last (λ o. is_written o.mode) e.before e.last (λ o h. (read o h).1) (ap is_written mode);
-      contributed = ap (filter (λ o. is_redux o.mode)) e.is ∙ filter-last (λ o. is_redux o.mode) e.before e.last (λ o h. (read o h).0) redux;
+      reduction = by.1;
+      contributes = and_middle (has k.kernel) (contributes_of k.kernel by.0) (has_reduction has by.0) (subst (λ (o : Option Kernel). (elim o as (λ _. Bool) [ None ↦ false | Some j ↦ has j && contributes_of j by.0 && has_reduction has by.0 ]) ≡ true) k.is by.2);
+      written = written;
+      contributed = sym (filter-filter (λ o. is_redux o.mode) (λ o. is_written o.mode) t.operands ∙ (λ i. filter (λ o. redux_writes o.mode i) t.operands)) ∙ ap (filter (λ o. is_redux o.mode)) written ∙ ap (λ b. cond b (found.0 ∷ []) []) found.2;
     }
+  where
+    redux_writes : (m : Mode) → (is_written m && is_redux m) ≡ is_redux m
+    redux_writes Redux = refl
+    redux_writes m = refl
 
 -- ---- the contribution of a task
 
 module _ {rs : List RootState} {t : TaskLine ℕ} {kernel : Kernel} (con : Contributes rs t kernel) where
   pub last-there : Contains t.operands con.last
-  last-there = subst (λ (os : List (Operand ℕ)). Contains os con.last) (sym con.is) (last-has con.before con.last)
+  last-there = con.there
 
   pub only-last : (o : Operand ℕ) → Contains t.operands o → is_redux o.mode ≡ true → con.last ≡ o
   only-last o among redux = one-case con.last o (subst (λ (os : List (Operand ℕ)). Contains os o) con.contributed (Contains-filter (λ (u : Operand ℕ). is_redux u.mode) t.operands o redux among))

@@ -1,5 +1,5 @@
 -- The block of a statement has what expanding it needs, by the roots' numbers.
-use Rattle.sj_lower.proofs.Words.{[], a_delivery, Access, access_of, All, AllByRecursion, ap, AreLaid, AreOpenings, arith, Bool, by_number, Cell, cell_info, cell_of, clashes_at, closing, cond, Contains, Contents, ContributesTo, count_by, data_operands, Deliver, deliver_row, Delivery, Dims, each_of, false, filter, first_copy_in, flat_map, fold, get_or, HasTakenPlan, HaveCopies, info_at, Init, inl, inr, is_data, is_first, is_other_access, is_read_only, is_redux, is_scratch, is_some, is_valued_child, IsCopyOf, IsDelivered, IsOrderly, IsOrderlyTask, IsPasteBetween, IsPlace, IsPlacedAt, IsPlain, IsSoundTaskAt, Kernel, kernel_of, Laid, length, Line, List, list_any, load_rows, Lowered, Mode, nat_eq, nat_le, nat_lt, no_task, None, not, open_at, opening_for, OpenReductions, Operand, operand_cell, Option, Parts, Paste, paste_row, pastes_of, pastes_to, PhaseOpening, places, print_block, Program, R, range_with_len, Reduction, Redux, refl, root_at, RootState, RW, same_cell, shut_by, Some, subst, sym, task_block, task_row, TaskBlock, TaskLine, true, unwrap_or, W, with_opening, with_shut, Worker, zip, ℕ, ◌+◌, ◌<◌, ◌∙◌, ◌∷◌, ◌≡◌}
+use Rattle.sj_lower.proofs.Words.{[], a_delivery, Access, access_of, All, AllByRecursion, ap, AreLaid, AreOpenings, arith, Bool, by_number, Cell, cell_info, cell_of, clashes_at, closing, cond, Contains, Contents, ContributesTo, count_by, data_operands, Deliver, deliver_row, Delivery, Dims, each_of, false, filter, first_copy_in, flat_map, fold, get_or, HasTakenPlan, HaveCopies, info_at, Init, inl, inr, is_data, is_first, is_other_access, is_read_only, is_redux, is_scratch, is_some, is_valued_child, IsCopyOf, IsDelivered, IsOrderly, IsOrderlyTask, IsPasteBetween, IsPlace, IsPlain, IsSoundTaskAt, Kernel, kernel_of, Laid, length, Line, List, list_any, load_rows, Lowered, Mode, nat_eq, nat_le, nat_lt, no_task, None, not, open_at, opening_for, OpenReductions, Operand, operand_cell, Option, Parts, Paste, paste_row, pastes_of, pastes_to, PhaseOpening, places, print_block, Program, R, range_with_len, Reduction, Redux, refl, root_at, RootState, RW, same_cell, shut_by, Some, subst, sym, task_block, task_row, TaskBlock, TaskLine, true, unwrap_or, W, with_opening, with_shut, Worker, zip, ℕ, ◌+◌, ◌<◌, ◌∙◌, ◌∷◌, ◌≡◌}
 use Rattle.sj_core.specs.Proper.{access}
 use Rattle.std.proofs.lemmas.{Bool.and_from, Bool.cond_both, Bool.false_from_ne_true, Bool.false≢true, Bool.le-leb, Bool.lt-ltb, Bool.not-true, List.Elements.All-contains, List.Elements.All-filter, List.Elements.All-from_recursion, List.Elements.All-map, List.Elements.All-weaker, List.Elements.Contains-get_or, List.FromFn.get_or-range_with_len, List.FromFn.length-range_with_len, List.get_or-map, List.length-map, List.map-id}
 use Rattle.sj_base.proofs.{Bools.tally, Lists.each-weaker, Numbers.none_first}
@@ -61,9 +61,6 @@ quiet-block p was line cs ls h =
 pub orderly-nothing : (p : Program) (was : OpenReductions) (line : Line) (cs : List Cell) → IsOrderly p was (closing line cs [])
 orderly-nothing p was line cs = quiet-block p was line cs [] tt
 
-place-of : (s : Parts) (x : ℕ × ℕ) → Contains (places s) x → IsPlace s x
-place-of s x h = All-contains (IsPlace s) (places s) x (All-from_recursion (IsPlace s) (places s) (each-places (IsPlace s) s (λ y k. k))) h
-
 -- what is open behind them was so before
 pub shut-less : (cs : List Cell) (was : OpenReductions) (c : Cell) (by : Reduction) → fold with_shut was cs c ≡ Some by → was c ≡ Some by
 shut-less [] was c by e = e
@@ -78,10 +75,8 @@ module _ (p : Program) (D : Laid) (was : OpenReductions) (line : Line) (cells : 
 
   pub orderly-loads : (m : ℕ) (d : Dims) (s : Parts) (f : ℕ) (i : Init) → HasTakenPlan D m d s f → ((place : ℕ × ℕ) → IsPlace s place → was (cell_of D m s place) ≡ None) → IsOrderly p was (closing line [] (load_rows i d s (cell_of D m s) line))
   orderly-loads m d s f i t fresh =
+      let loaded = λ (place : ℕ × ℕ) (at : IsPlace s place). All-from_recursion (IsBeside p was) (access W (cell_of D m s place) ∷ []) (record { plain = plain-child p D m d s f place cells copies laid t at; direct = refl; shut = fresh place at }, tt) in
       quiet-block p was line [] (load_rows i d s (cell_of D m s) line) (each-load (IsQuiet p was) i d s (cell_of D m s) line (λ xs place at. (loaded place at, λ e. absurd (cc))) (λ a b place at. (loaded place at, λ e. absurd (cc))))
-    where
-      loaded : (place : ℕ × ℕ) → IsPlace s place → All (IsBeside p was) (access W (cell_of D m s place) ∷ [])
-      loaded place at = All-from_recursion (IsBeside p was) (access W (cell_of D m s place) ∷ []) (record { plain = plain-child p D m d s f place cells copies laid t at; direct = refl; shut = fresh place at }, tt)
 
   -- ---- pastes
 
@@ -89,17 +84,13 @@ module _ (p : Program) (D : Laid) (was : OpenReductions) (line : Line) (cells : 
       → IsOrderly p was (closing line cs (each_of (paste_row (cell_of D m s) (cell_of D m t) line) (pastes_of d s t)))
   orderly-pastes m d s t f g cs old new closed fresh =
       let row = paste_row (cell_of D m s) (cell_of D m t) line in
+      let opens = fold with_shut was cs in
       let between = each-flat_map (IsPasteBetween d s t) (pastes_to d s t) (places t) (each-places (λ to. AllByRecursion (IsPasteBetween d s t) (pastes_to d s t to)) t (pastes-between d s t)) in
-      quiet-block p was line cs (each_of row (pastes_of d s t)) (each-map (IsQuiet p (fold with_shut was cs)) row (pastes_of d s t) (each-weaker (IsPasteBetween d s t) (λ x. IsQuiet p (fold with_shut was cs) (row x)) pasted (pastes_of d s t) between))
-    where
-      pasted : (x : Paste) → IsPasteBetween d s t x → IsQuiet p (fold with_shut was cs) (paste_row (cell_of D m s) (cell_of D m t) line x)
-      pasted x b = (
-        All-from_recursion (IsBeside p (fold with_shut was cs)) (access R (cell_of D m s x.from) ∷ access (cond (is_first x) W RW) (cell_of D m t x.to) ∷ []) (
-          record { plain = plain-child p D m d s f x.from cells copies laid old b.from; direct = refl; shut = shuts cs was (cell_of D m s x.from) (inl (closed x.from b.from)) },
-          (record { plain = plain-child p D m d t g x.to cells copies laid new b.to; direct = cond_both (is_first x) W RW (λ (mode : Mode). is_redux mode ≡ false) (λ e. refl) (λ e. refl); shut = shuts cs was (cell_of D m t x.to) (inr (fresh x.to b.to)) }, tt),
-        ),
-        (λ e. absurd (cc)),
-      )
+      let pasted = λ (x : Paste) (b : IsPasteBetween d s t x). All-from_recursion (IsBeside p opens) (access R (cell_of D m s x.from) ∷ access (cond (is_first x) W RW) (cell_of D m t x.to) ∷ []) (
+        record { plain = plain-child p D m d s f x.from cells copies laid old b.from; direct = refl; shut = shuts cs was (cell_of D m s x.from) (inl (closed x.from b.from)) },
+        (record { plain = plain-child p D m d t g x.to cells copies laid new b.to; direct = cond_both (is_first x) W RW (λ (mode : Mode). is_redux mode ≡ false) (λ e. refl) (λ e. refl); shut = shuts cs was (cell_of D m t x.to) (inr (fresh x.to b.to)) }, tt),
+      ) in
+      quiet-block p was line cs (each_of row (pastes_of d s t)) (each-map (IsQuiet p opens) row (pastes_of d s t) (each-weaker (IsPasteBetween d s t) (λ x. IsQuiet p opens (row x)) (λ x b. (pasted x b, λ e. absurd (cc))) (pastes_of d s t) between))
 
 -- ---- task lines
 
@@ -121,44 +112,31 @@ module _ (p : Program) (D : Laid) (n : ℕ) (k : Contents) (rs : List RootState)
   shut : (o : Operand ℕ) → Contains t.operands o → is_data o.mode ≡ true → is_redux o.mode ≡ false → shut_by was b (the_cell rs D o) ≡ None
   shut o h data' direct = shuts b.closes was (the_cell rs D o) (inl (Contains-map (operand_cell (by_number rs) D) (filter is_other_access t.operands) o (Contains-filter is_other_access t.operands o (and_from (is_data o.mode) (not (is_redux o.mode)) data' (ap not direct)) h)))
 
-  silent : All IsOther (l ∷ [])
-  silent = All-from_recursion IsOther (l ∷ []) (s.silent, tt)
-
-  -- the task, by the phases that are open at it
-  orderly-task : (opens : OpenReductions) → ((o : Operand ℕ) → Contains t.operands o → is_data o.mode ≡ true → is_redux o.mode ≡ false → opens (the_cell rs D o) ≡ None) → ((o : Operand ℕ) → Contains t.operands o → is_redux o.mode ≡ true → ContributesTo opens l (the_cell rs D o)) → IsOrderlyTask p opens l
-  orderly-task opens none gifts = record {
-    plain = All-map (λ (a : Access). IsPlain p a.cell) (access_of (by_number rs) D) t.operands (all-from (λ (o : Operand ℕ). IsPlain p (the_cell rs D o)) t.operands plain);
-    shut = all-from (λ (a : Access). not (is_redux a.mode) ≡ true → opens a.cell ≡ None) (data_operands l) (λ a h mode.
-        (let o = map-from (access_of (by_number rs) D) t.operands a (Contains-from_filter (λ (x : Access). not (is_scratch x.mode)) l.accesses a h) in
-        let data' = ap (λ (x : Access). is_data x.mode) o.2 ∙ filter-Contains (λ (x : Access). not (is_scratch x.mode)) l.accesses a h in
-        subst (λ (x : Access). opens x.cell ≡ None) o.2 (none o.0 o.1 data' (not-true (is_redux o.0.mode) (ap (λ (x : Access). not (is_redux x.mode)) o.2 ∙ mode)))));
-    contributes = All-map (λ (a : Access). is_redux a.mode ≡ true → ContributesTo opens l a.cell) (access_of (by_number rs) D) t.operands (all-from (λ (o : Operand ℕ). is_redux o.mode ≡ true → ContributesTo opens l (the_cell rs D o)) t.operands gifts);
-  }
+  -- the block, by the phases that are open at its task
+  orderly-block : ((o : Operand ℕ) → Contains t.operands o → is_data o.mode ≡ true → is_redux o.mode ≡ false → open_at was b (the_cell rs D o) ≡ None) → ((o : Operand ℕ) → Contains t.operands o → is_redux o.mode ≡ true → ContributesTo (open_at was b) l (the_cell rs D o)) → AreOpenings p (l ∷ []) (shut_by was b) b.opens → IsOrderly p was b
+  orderly-block none gifts openings =
+      let opens = open_at was b in
+      let task : IsOrderlyTask p opens l = record {
+        plain = All-map (λ (a : Access). IsPlain p a.cell) (access_of (by_number rs) D) t.operands (all-from (λ (o : Operand ℕ). IsPlain p (the_cell rs D o)) t.operands plain);
+        shut = all-from (λ (a : Access). not (is_redux a.mode) ≡ true → opens a.cell ≡ None) (data_operands l) (λ a h mode.
+            (let o = map-from (access_of (by_number rs) D) t.operands a (Contains-from_filter (λ (x : Access). not (is_scratch x.mode)) l.accesses a h) in
+            let data' = ap (λ (x : Access). is_data x.mode) o.2 ∙ filter-Contains (λ (x : Access). not (is_scratch x.mode)) l.accesses a h in
+            subst (λ (x : Access). opens x.cell ≡ None) o.2 (none o.0 o.1 data' (not-true (is_redux o.0.mode) (ap (λ (x : Access). not (is_redux x.mode)) o.2 ∙ mode)))));
+        contributes = All-map (λ (a : Access). is_redux a.mode ≡ true → ContributesTo opens l a.cell) (access_of (by_number rs) D) t.operands (all-from (λ (o : Operand ℕ). is_redux o.mode ≡ true → ContributesTo opens l (the_cell rs D o)) t.operands gifts);
+      } in
+      record { tasks = All-from_recursion (IsOrderlyTask p opens) (l ∷ []) (task, tt); openings = openings; delivered = delivered-quiet (l ∷ []) (All-from_recursion IsOther (l ∷ []) (s.silent, tt)) }
 
   -- no contribution
   pub orderly-direct : list_any (λ o. is_redux o.mode) t.operands ≡ false → IsOrderly p was b
   orderly-direct none =
       let quiet = ap (flat_map (opening_for (by_number rs) D)) (none-filter t.operands none) in
-      record {
-        tasks = All-from_recursion (IsOrderlyTask p (open_at was b)) (l ∷ []) (
-          orderly-task (open_at was b) (λ o h data' direct. ap (λ (os : List PhaseOpening). fold with_opening (shut_by was b) os (the_cell rs D o)) quiet ∙ shut o h data' direct)
-              (λ o h redux. absurd (false≢true (sym (none-passes (λ (u : Operand ℕ). is_redux u.mode) t.operands none o h) ∙ redux))),
-          tt,
-        );
-        openings = subst (AreOpenings p (l ∷ []) (shut_by was b)) (sym quiet) tt;
-        delivered = delivered-quiet (l ∷ []) silent;
-      }
+      orderly-block (λ o h data' direct. ap (λ (os : List PhaseOpening). fold with_opening (shut_by was b) os (the_cell rs D o)) quiet ∙ shut o h data' direct)
+      (λ o h redux. absurd (false≢true (sym (none-passes (λ (u : Operand ℕ). is_redux u.mode) t.operands none o h) ∙ redux))) (subst (AreOpenings p (l ∷ []) (shut_by was b)) (sym quiet) tt)
 
   -- a contribution
   module _ (con : Contributes rs t (kernel_there set rs t s).call.kernel) (copied : (f : Cell) × ((info_at D (the_cell rs D con.last)).partials ≡ Some f)) where
-    abbrev u : Operand ℕ
-    u = con.last
-
     abbrev c : Cell
-    c = the_cell rs D u
-
-    placed : IsPlacedAt rs u
-    placed = placed-at set rs t s u (last-there con)
+    c = the_cell rs D con.last
 
     one_open : open_at was b ≡ with_opening (shut_by was b) (opening_by con D)
     one_open = ap (fold with_opening (shut_by was b)) (one-opens con D)
@@ -168,14 +146,14 @@ module _ (p : Program) (D : Laid) (n : ℕ) (k : Contents) (rs : List RootState)
     apart o h direct = false_from_ne_true (same_cell c (the_cell rs D o)) (λ e.
         (let same = same_cell-is c (the_cell rs D o) e in
         let its = placed-at set rs t s o h in
-        let unread = λ (r : is_read_only u.mode ≡ true). false≢true (ap is_read_only (sym con.redux) ∙ r) in
-        elim (AllPairs-two (λ (v w : Operand ℕ). clashes_at v w ≡ false) t.operands o u (none-clash t.operands s.apart) h (last-there con)) [
+        let unread = λ (r : is_read_only con.last.mode ≡ true). false≢true (ap is_read_only (sym con.redux) ∙ r) in
+        elim (AllPairs-two (λ (v w : Operand ℕ). clashes_at v w ≡ false) t.operands o con.last (none-clash t.operands s.apart) h (last-there con)) [
           | inl one ↦ false≢true (sym direct ∙ ap (λ (x : Operand ℕ). is_redux x.mode) one ∙ ap is_redux con.redux)
-          | inr clear ↦ elim clear [ inl e ↦ unread (both-read p D n k rs o u laid has its placed e (sym same)).1 | inr e ↦ unread (both-read p D n k rs u o laid has placed its e same).0 ]
+          | inr clear ↦ elim clear [ inl e ↦ unread (both-read p D n k rs o con.last laid has its con.placed e (sym same)).1 | inr e ↦ unread (both-read p D n k rs con.last o laid has con.placed its e same).0 ]
         ]))
 
     gives : Contains l.accesses (access Redux c)
-    gives = subst (λ (m : Mode). Contains l.accesses (access m c)) con.redux (Contains-map (access_of (by_number rs) D) t.operands u (last-there con))
+    gives = subst (λ (m : Mode). Contains l.accesses (access m c)) con.redux (Contains-map (access_of (by_number rs) D) t.operands con.last (last-there con))
 
     gift : ContributesTo (open_at was b) l c
     gift =
@@ -193,29 +171,24 @@ module _ (p : Program) (D : Laid) (n : ℕ) (k : Contents) (rs : List RootState)
     goes_on : (by : Reduction) → shut_by was b c ≡ Some by → ((opening_by con D).valued ≡ true) × (con.by ≡ by)
     goes_on by e =
         let child = opened c by (shut-less b.closes was c by e) in
-        let r = has u.name placed.lives in
-        let w = has child.number child.lives in
-        let one = cells-apart D child.number u.name (root_at rs child.number).dims (root_at rs u.name).dims (root_at rs child.number).parts (root_at rs u.name).parts w.first r.first child.place u.place laid w.taken r.taken child.inside placed.place (sym child.is) in
-        (sym ((λ i. is_valued_child (root_at rs (one.0 i)) (one.2 i))) ∙ child.valued, some_is con.by by (sym con.reduction ∙ ap (λ m. (root_at rs m).reduction) (sym one.0) ∙ child.reduction))
+        let r = has con.last.name con.placed.lives in
+        let w = has child.number child.at.lives in
+        let one = cells-apart D child.number con.last.name (root_at rs child.number).dims (root_at rs con.last.name).dims (root_at rs child.number).parts (root_at rs con.last.name).parts w.first r.first child.place con.last.place laid w.taken r.taken child.at.inside con.placed.place (sym child.at.is) in
+        (sym ((λ i. is_valued_child (root_at rs (one.0 i)) (one.2 i))) ∙ child.at.valued, some_is con.by by (sym con.reduction ∙ ap (λ m. (root_at rs m).reduction) (sym one.0) ∙ child.at.reduction))
 
     pub orderly-gift : IsOrderly p was b
-    orderly-gift = record {
-      tasks = All-from_recursion (IsOrderlyTask p (open_at was b)) (l ∷ []) (
-        orderly-task (open_at was b)
-            (λ o h data' direct. ap (λ (f : OpenReductions). f (the_cell rs D o)) one_open ∙ phase-other c (Some con.by) (shut_by was b) (the_cell rs D o) (apart o h direct) ∙ shut o h data' direct)
-            (λ o h redux. subst (λ (x : Operand ℕ). ContributesTo (open_at was b) l (the_cell rs D x)) (only-last con o h redux) gift),
-        tt,
-      );
-      openings = subst (AreOpenings p (l ∷ []) (shut_by was b)) (sym (one-opens con D)) (
-        record {
-          used = (l, first-has l [], gives);
-          valued = goes_on;
-          copies = cells.kept c.0 (first_copy_in D c) (copied.1 ∙ ap (λ (o : Option Cell). Some (unwrap_or o (record { 0 = length D.rows }))) (sym copied.1));
-        },
-        tt,
-      );
-      delivered = delivered-quiet (l ∷ []) silent;
-    }
+    orderly-gift =
+        orderly-block
+        (λ o h data' direct. ap (λ (f : OpenReductions). f (the_cell rs D o)) one_open ∙ phase-other c (Some con.by) (shut_by was b) (the_cell rs D o) (apart o h direct) ∙ shut o h data' direct)
+        (λ o h redux. subst (λ (x : Operand ℕ). ContributesTo (open_at was b) l (the_cell rs D x)) (only-last con o h redux) gift)
+        (subst (AreOpenings p (l ∷ []) (shut_by was b)) (sym (one-opens con D)) (
+          record {
+            used = (l, first-has l [], gives);
+            valued = goes_on;
+            copies = cells.kept c.0 (first_copy_in D c) (copied.1 ∙ ap (λ (o : Option Cell). Some (unwrap_or o (record { 0 = length D.rows }))) (sym copied.1));
+          },
+          tt,
+        ))
 
 -- ---- print statements
 
@@ -243,20 +216,16 @@ zip-numbers : (n : ℕ) (d : Dims) (s : Parts) (print a : ℕ) (ps : List (ℕ �
 zip-numbers n d s print a [] = refl
 zip-numbers n d s print a (x ∷ ps) = ap (λ xs. a ∷ xs) (zip-numbers n d s print (a + 1) ps)
 
--- the cells of a root's active children
-abbrev pub cells_by : Laid → ℕ → RootState → List Cell
-cells_by D m r = each_of (cell_of D m r.parts) (places r.parts)
-
 pub orderly-prints : (p : Program) (D : Laid) (was : OpenReductions) (line : Line) (m : ℕ) (r : RootState) (f print : ℕ) → HasCells p D → AreLaid D → HaveCopies p.workers D → HasTakenPlan D m r.dims r.parts f
-    → IsOrderly p was (print_block m r (cells_by D m r) print line)
+    → IsOrderly p was (print_block m r (each_of (cell_of D m r.parts) (places r.parts)) print line)
 orderly-prints p D was line m r f print cells laid copies t =
-    let cs = cells_by D m r in
+    let cs = each_of (cell_of D m r.parts) (places r.parts) in
     let opens = fold with_shut was cs in
     let row = λ (c : Cell). deliver_row c line in
     record {
       tasks = All-map (IsOrderlyTask p opens) row cs (all-from (λ (c : Cell). IsOrderlyTask p opens (row c)) cs (λ c among.
           (let place = map-from (cell_of D m r.parts) (places r.parts) c among in
-          let plain = subst (IsPlain p) place.2 (plain-child p D m r.dims r.parts f place.0 cells copies laid t (place-of r.parts place.0 place.1)) in
+          let plain = subst (IsPlain p) place.2 (plain-child p D m r.dims r.parts f place.0 cells copies laid t (All-contains (IsPlace r.parts) (places r.parts) place.0 (All-from_recursion (IsPlace r.parts) (places r.parts) (each-places (IsPlace r.parts) r.parts (λ y at. at))) place.1)) in
           beside-task p opens (row c) (All-from_recursion (IsBeside p opens) (access R c ∷ []) (record { plain = plain; direct = refl; shut = shuts cs was c (inl among) }, tt)))));
       openings = tt;
       delivered = delivered-numbered (each_of row cs) (each_of (a_delivery m r.dims r.parts print) (zip (range_with_len 0 (length (places r.parts))) (places r.parts))) (λ l among. (let x = map-from row cs l among in ap (λ (y : Lowered). kernel_of y.codelet) (sym x.2)))

@@ -1,6 +1,6 @@
 -- An act that is sound by its roots' names is so by their numbers.
-use Rattle.sj_lower.proofs.Words.{[], Act, act_named_by, AllByRecursion, ap, area, AreDistinct, Bool, bytes_eq, child_dims_at, child_rect, clashes_at, Deliver, Dims, false, Fits, fits_in, Formal, formals_in, has_no_value, has_value, Invalidates, is_aliased_at, is_child, is_lawful_for, is_none, is_read_only, is_unordered, is_valued, is_valued_child, IsPlacedAt, IsSoundAct, IsSoundAt, IsSoundTaskAt, JobState, Kernel, kernel_of, length, List, list_all, list_any, Lives, map, mode_fits, modes_fit_at, name_at, nat_eq, needs_value, None, not, Operand, operand_named_by, Option, Plans, Prints, rect_dims, Reduces, Reduction, refl, Registers, root_at, root_of, RootState, same_child_place, Some, subst, sym, task_named_by, TaskLine, Tasks, true, Unregisters, written_of, ℕ, ◌&&◌, ◌<◌, ◌||◌, ◌∙◌, ◌∷◌, ◌≡◌}
-use Rattle.std.proofs.lemmas.{Bool.and_parts, Bool.eq-eqb, Bool.eqb-true, Bool.false≢true, List.length-map, Slice.Eq.bytes_eq-Decides}
+use Rattle.sj_lower.proofs.Words.{[], Act, act_named_by, AllByRecursion, ap, area, AreDistinct, Bool, bytes_eq, child_dims_at, child_rect, clashes_at, Deliver, Dims, false, Fits, fits_in, Formal, formals_in, has_no_value, has_value, Invalidates, is_aliased_at, is_child, is_lawful_for, is_none, is_read_only, is_unordered, is_valued, is_valued_child, IsPlacedAt, IsSoundAct, IsSoundAt, IsSoundTaskAt, JobState, Kernel, kernel_of, length, List, list_all, list_any, Lives, map, mode_fits, modes_fit_at, name_at, nat_eq, needs_value, None, not, Operand, operand_named_by, Option, Plans, Prints, rect_dims, Reduces, Reduction, refl, Registers, root_at, root_of, RootState, same_child_place, Some, subst, sym, task_named_by, TaskLine, Tasks, true, Unregisters, written_of, ℕ, ◌&&◌, ◌<◌, ◌||◌, ◌∙◌, ◌∷◌, ◌≡◌, get_or}
+use Rattle.std.proofs.lemmas.{Bool.eq-eqb, Bool.eqb-true, Bool.false≢true, List.Elements.All-from_recursion, List.Elements.recursion_from_All, List.length-map, List.Sums.AllPass-from_list_all, Slice.Eq.bytes_eq-Decides}
 use Rattle.sj_base.proofs.{Bools.same_test, Lists.list_any-map}
 use Rattle.sj_meaning.proofs.{Children.place-from_test, Finding.text-itself, Mirroring.IsMirror, Mirroring.IsThere, Mirroring.IsTimely, Mirroring.root-there, Mirroring.written-by}
 use Rattle.sj_meaning.specs.Sound as by_name
@@ -52,12 +52,11 @@ module _ (names : List (List ℕ)) (d : AreDistinct names) (S : JobState) (rs : 
       any-at (by_name.clashes (operand_named_by (name_at names) o)) (clashes_at o) (λ p g. λ j. same-name o.name p.name h.0.below g.below j && same_child_place o.place p.place && not (is_read_only o.mode && is_read_only p.mode)) os h.1 i || aliased-at os h.1 i
 
   placed-at : (os : List (Operand ℕ)) → AllByRecursion There os → list_all (by_name.has_child S) (map (operand_named_by (name_at names)) os) ≡ true → AllByRecursion (IsPlacedAt rs) os
-  placed-at [] h e = tt
-  placed-at (o ∷ os) h e =
-      let both = and_parts (by_name.has_child S (operand_named_by (name_at names) o)) (list_all (by_name.has_child S) (map (operand_named_by (name_at names)) os)) e in (
-        record { lives = lives o.name h.0; place = place-from_test (root_at rs o.name).parts o.place (sym (looked false (λ r. is_child r.parts o.place) o.name h.0) ∙ both.0) },
-        placed-at os h.1 both.1,
-      )
+  placed-at os h e =
+      let has = λ (o : Operand ℕ). is_child (root_at rs o.name).parts o.place in
+      let tests = AllPass-from_list_all has os (sym (all-at (by_name.has_child S) has (λ o g. looked false (λ r. is_child r.parts o.place) o.name g) os h) ∙ e) in
+      recursion_from_All (IsPlacedAt rs) os (λ k d inside.
+      (let o = get_or os k d in record { lives = lives o.name (All-from_recursion There os h k d inside); place = place-from_test (root_at rs o.name).parts o.place (tests k d inside) }))
 
   task-at : (has : Kernel → Bool) (t : TaskLine ℕ) → AllByRecursion There t.operands → by_name.IsSoundTask has S (task_named_by (name_at names) t) → (kernel_of t.codelet ≡ Some Deliver → ⊥) → IsSoundTaskAt has rs t
   task-at has t h s silent = record {

@@ -1,9 +1,10 @@
 -- A registration and a plan line leave in the cells of a root's children what the children hold, by the roots' numbers.
-use Rattle.sj_lower.proofs.Words.{[], ap, area, AreLaid, arith, Array, array, Cell, cell_of, change_at, child, child_array, cond, Contents, Dims, each_of, false, Fill, fill_arguments, fill_row, first_elements, Fits, gives_value, Handle, handle_at, handle_of, has_no_value, HasTakenPlan, HaveCopies, held_in, Init, InitFits, inl, inr, is_valued, is_valued_child, IsPlace, IsSoundPlanAt, IsSoundRegistrationAt, Kind, Laid, length, length-append, Line, List, Load, load_row, load_rows, LoadFill, loadfill, Lowered, no_root, None, Nothing, Parts, paste_row, pastes_of, places, pos, Program, refl, Register, registered_root, root_array, root_at, RootState, same_cell, same_parts, subst, sym, take, true, Values, window, with_handle, with_parts, zeros, ℕ, ℤ, ◌++◌, ◌+◌, ◌<◌, ◌||◌, ◌∙◌, ◌∷◌, ◌≡◌}
+use Rattle.sj_lower.proofs.Words.{[], ap, area, AreLaid, arith, Array, array, Cell, cell_of, child, child_array, cond, Contents, Dims, each_of, false, Fill, fill_arguments, fill_row, first_elements, Fits, gives_value, handle_at, has_no_value, HasTakenPlan, HaveCopies, held_in, Init, InitFits, inl, inr, is_valued, is_valued_child, IsPlace, Kind, Laid, length, length-append, Line, List, Load, load_row, load_rows, LoadFill, loadfill, Lowered, no_root, None, Nothing, Parts, paste_row, pastes_of, places, pos, Program, refl, root_array, root_at, RootState, same_cell, same_parts, subst, sym, take, true, Values, window, with_parts, zeros, ℕ, ℤ, ◌++◌, ◌+◌, ◌<◌, ◌||◌, ◌∙◌, ◌∷◌, ◌≡◌, access, closing, direct, direct_mode, is_first, Mode, own_task, Paste, paste_arguments, PasteKernel, plain_rows, plan_block, R, RW, TaskBlock, W}
 use Rattle.std.proofs.Math.Seq.{get_or-append_seam}
-use Rattle.std.proofs.lemmas.{Bool.cases_lt, Bool.cond_both, Bool.false≢true, List.get_or_append_left, List.get_or_past, List.length-set}
+use Rattle.std.proofs.lemmas.{Bool.cases_lt, Bool.cond_both, Bool.false≢true, List.get_or_append_left, List.get_or_past}
 use Rattle.sj_meaning.proofs.Children.{first_length}
-use Rattle.sj_lower.proofs.{Contents.contents_before, Copying.copies-root, Copying.copies-take, Elements.blank-child, Elements.child-window, Elements.child-within, Elements.filled-window, Elements.no_values-blank, Elements.unwrapped, Elements.valued-child, Filling.after_fill, Filling.after_load, Filling.AreFilled, Filling.blocks-give, Filling.gives_own, Filling.HaveOwn, Filling.rows-filled, Filling.rows-give, Folding.after_row, Folding.after_rows, Folding.contents-rows, Folding.given-rows, Folding.one_gives, Folding.Stand, Keeping.cell-dims, Keeping.changed-beside, Keeping.changed-here, Keeping.differs, Keeping.HasCells, Keeping.HasRoot, Keeping.HaveRoots, Keeping.held-kept, Keeping.holds-changed, Keeping.IsHeld, Keeping.lives-below, Keeping.root-kept, Pasting.pastes-filled, Pasting.pastes-give, Pasting.rows-by_child, Pasting.rows_to, Places.parts-are, Places.parts-itself, Taken.cells-apart, Taken.keeps-root, Taken.laid-root, Taken.laid-take, Taken.root-there, Taken.take-handles, Taken.take-keeps, Taken.take-takes}
+use Rattle.sj_lower.proofs.{Contents.contents_before, Copying.copies-take, Elements.blank-child, Elements.child-window, Elements.child-within, Elements.filled-window, Elements.no_values-blank, Elements.unwrapped, Elements.valued-child, Filling.after_fill, Filling.after_load, Filling.AreFilled, Filling.blocks-give, Filling.gives_own, Filling.HaveOwn, Filling.rows-filled, Filling.rows-give, Folding.after_row, Folding.after_rows, Folding.contents-rows, Folding.given-rows, Folding.one_gives, Folding.Stand, Keeping.cell-dims, Keeping.differs, Keeping.HasCells, Keeping.HasRoot, Keeping.HaveRoots, Keeping.held-kept, Keeping.holds-changed, Keeping.IsHeld, Keeping.root-kept, Pasting.pastes-filled, Pasting.pastes-give, Pasting.rows-by_child, Pasting.rows_to, Places.parts-are, Places.parts-itself, Taken.cells-apart, Taken.laid-take, Taken.take-handles, Taken.take-keeps, Taken.take-takes}
+use Rattle.std.proofs.lemmas.Simd.{map-map}
 
 -- two children of a plan have two cells
 own_cells : (C : Laid) (m : ℕ) (d : Dims) (s : Parts) (f : ℕ) → AreLaid C → HasTakenPlan C m d s f → HaveOwn s (cell_of C m s)
@@ -12,7 +13,7 @@ own_cells C m d s f laid t place other hp ho same = (cells-apart C m m d d s s f
 -- ---- what the tasks of a root leave
 
 -- its cells hold what its children hold, and other cells hold what they held
-record Turns (q : Program) (C : Laid) (m : ℕ) (x : RootState) (ls : List Lowered) (n : ℕ) : Type 0 where
+pub record Turns (q : Program) (C : Laid) (m : ℕ) (x : RootState) (ls : List Lowered) (n : ℕ) : Type 0 where
   held : (place : ℕ × ℕ) → IsPlace x.parts place → is_valued_child x place ≡ true → IsHeld q (n + length ls) (after_rows q (contents_before q n) ls) (cell_of C m x.parts place) (child_array x place)
   others : (c : Cell) → ((place : ℕ × ℕ) → IsPlace x.parts place → same_cell (cell_of C m x.parts place) c ≡ false) → held_in q (after_rows q (contents_before q n) ls) c ≡ held_in q (contents_before q n) c
 
@@ -46,7 +47,7 @@ pub record Keeps (q : Program) (C : Laid) (rs : List RootState) (n : ℕ) (ls : 
   pub counted : length C.handles ≡ length rs
 
 -- a root takes its plan, and its tasks follow: so it is after them
-keeps_taken : (q : Program) (C B : Laid) (n : ℕ) (rs new : List RootState) (m : ℕ) (x : RootState) (ls : List Lowered) → HaveRoots q C n (contents_before q n) rs → ((u : ℕ) (d : Dims) (s : Parts) (g : ℕ) → HasTakenPlan C u d s g → HasTakenPlan B u d s g)
+pub keeps_taken : (q : Program) (C B : Laid) (n : ℕ) (rs new : List RootState) (m : ℕ) (x : RootState) (ls : List Lowered) → HaveRoots q C n (contents_before q n) rs → ((u : ℕ) (d : Dims) (s : Parts) (g : ℕ) → HasTakenPlan C u d s g → HasTakenPlan B u d s g)
     → AreLaid B → HaveCopies q.workers B → m < length B.handles → (handle_at B m).dims ≡ x.dims → Fits x.parts x.dims → length x.elements ≡ area x.dims → length B.handles ≡ length new → root_at new m ≡ x → ((u : ℕ) → (u ≡ m → ⊥) → root_at new u ≡ root_at rs u)
     → let D = take m x.parts B in Stand q n ls → ((f : ℕ) → AreLaid D → HasTakenPlan D m x.dims x.parts f → Turns q D m x ls n) → Keeps q D new n ls
 keeps_taken q C B n rs new m x ls has keeps a copies there dims fits whole counted here beside stand turns =
@@ -84,7 +85,7 @@ keeps_taken q C B n rs new m x ls has keeps a copies there dims fits whole count
 abbrev begun : Kind → Init → Dims → Parts → RootState
 begun kind i d s = record { kind = kind; dims = d; parts = s; reduction = None; elements = first_elements i d }
 
-starts : (q : Program) (C : Laid) (m : ℕ) (kind : Kind) (i : Init) (d : Dims) (s : Parts) (line : Line) (n f : ℕ) → Fits s d → InitFits i d → HasCells q C → AreLaid C → HasTakenPlan C m d s f → Stand q n (load_rows i d s (cell_of C m s) line) → Turns q C m (begun kind i d s) (load_rows i d s (cell_of C m s) line) n
+pub starts : (q : Program) (C : Laid) (m : ℕ) (kind : Kind) (i : Init) (d : Dims) (s : Parts) (line : Line) (n f : ℕ) → Fits s d → InitFits i d → HasCells q C → AreLaid C → HasTakenPlan C m d s f → Stand q n (load_rows i d s (cell_of C m s) line) → Turns q C m (begun kind i d s) (load_rows i d s (cell_of C m s) line) n
 starts q C m kind (Values xs) d s line n f fits init cells laid t stand =
     let x = begun kind (Values xs) d s in
     turns_rows q C m x (λ place. load_row xs d (child d s place) (cell_of C m s place) line) n f stand laid t (λ place inside k.
@@ -113,59 +114,39 @@ pushed-beside rs x m other = elim (cases_lt m (length rs)) as (λ _. root_at (rs
   | inr le ↦ get_or_past (rs ++ x ∷ []) m no_root (omega (arith, le, other, length-append rs (x ∷ []))) ∙ sym (get_or_past rs m no_root le)
 ]
 
-pub keeps-registered : (q : Program) (C : Laid) (n : ℕ) (rs : List RootState) (line : Line) (r : Register ℕ) → IsSoundRegistrationAt rs r → AreLaid C → HaveCopies q.workers C → length C.handles ≡ length rs → HaveRoots q C n (contents_before q n) rs
-    → let m = length C.handles in let D = take m r.parts (with_handle r.dims C) in let ls = load_rows r.init r.dims r.parts (cell_of D m r.parts) line in HasCells q D → Stand q n ls → Keeps q D (rs ++ registered_root r ∷ []) n ls
-keeps-registered q C n rs line r s a copies counted has cells stand =
-    let m = length C.handles in
-    let B = with_handle r.dims C in
-    let D = take m r.parts B in
-    let long = length-append C.handles (handle_of r.dims ∷ []) in
-    keeps_taken q C B n rs (rs ++ registered_root r ∷ []) m (registered_root r) (load_rows r.init r.dims r.parts (cell_of D m r.parts) line) has (keeps-root C r.dims) (laid-root C r.dims a s.elements) (copies-root q.workers C r.dims copies)
-    (omega (arith, long)) (ap (λ (h : Handle). h.dims) (root-there C r.dims m refl)) s.parts (first_length r.init r.dims s.values) (omega (arith, long, length-append rs (registered_root r ∷ []), counted))
-    (pushed-there rs (registered_root r) m counted) (λ u other. pushed-beside rs (registered_root r) u (λ e. other (e ∙ sym counted))) stand (λ f laid t. starts q D m r.kind r.init r.dims r.parts line n f s.parts s.values cells laid t stand)
-
 -- ---- plans
 
--- the tasks of a plan line, by its root
-abbrev pub planned_rows : RootState → Laid → ℕ → Parts → Line → List Lowered
-planned_rows r C m s line = cond (same_parts r.parts s) [] (cond (is_valued r) (each_of (paste_row (cell_of C m r.parts) (cell_of C m s) line) (pastes_of r.dims r.parts s)) [])
+-- tasks that no task line names are what they are without phases
+pub direct-each : {X : Type 0} (row : X → Lowered) → ((x : X) → direct (row x) ≡ row x) → (xs : List X) → each_of direct (each_of row xs) ≡ each_of row xs
+direct-each row h xs = map-map direct row xs ∙ (λ i. each_of (λ x. h x i) xs)
 
-turns_pasted : (q : Program) (C : Laid) (m : ℕ) (r : RootState) (s : Parts) (line : Line) (n f : ℕ) → let ls = each_of (paste_row (cell_of C m r.parts) (cell_of C m s) line) (pastes_of r.dims r.parts s) in
-    Stand q n ls → HasCells q C → AreLaid C → HasRoot q C n (contents_before q n) m r → HasTakenPlan C m r.dims s f → same_parts r.parts s ≡ false → is_valued r ≡ true → Turns q C m (with_parts s r) ls n
-turns_pasted q C m r s line n f stand cells laid b t changed valued =
+pub direct-pastes : (old new : ℕ × ℕ → Cell) (line : Line) (xs : List Paste) → each_of direct (each_of (paste_row old new line) xs) ≡ each_of (paste_row old new line) xs
+direct-pastes old new line = direct-each (paste_row old new line) (λ x.
+    let mk : Mode → Lowered = λ m. own_task PasteKernel (paste_arguments x) (access R (old x.from) ∷ access m (new x.to) ∷ []) line in
+    ap mk (cond_both (is_first x) W RW (λ m. direct_mode m ≡ m) (λ e. refl) (λ e. refl)))
+
+pub turns_by : (q : Program) (C : Laid) (m : ℕ) (r : RootState) (s : Parts) (line : Line) (closed : List Cell) (n f : ℕ) → HasCells q C → AreLaid C → HasRoot q C n (contents_before q n) m r → HasTakenPlan C m r.dims s f
+    → (is_valued r || has_no_value r) ≡ true → let ls = plain_rows (plan_block r closed C m s line) in Stand q n ls → Turns q C m (with_parts s r) ls n
+turns_by q C m r s line closed n f cells laid b t even =
     let d = r.dims in
     let old = cell_of C m r.parts in
     let new = cell_of C m s in
     let fit = laid.fits m d s f t in
+    let pastes = each_of (paste_row old new line) (pastes_of d r.parts s) in
+    let same = direct-pastes old new line (pastes_of d r.parts s) in
+    cond_both (same_parts r.parts s) (closing line [] []) (closing line closed (cond (is_valued r) pastes [])) (λ (b : TaskBlock). Stand q n (plain_rows b) → Turns q C m (with_parts s r) (plain_rows b) n)
+    (λ same stand. turns_idle q C m (with_parts s r) n
+    (subst (λ (x : Parts). (place : ℕ × ℕ) → IsPlace x place → is_valued_child (with_parts x r) place ≡ true → IsHeld q n (contents_before q n) (cell_of C m x place) (child_array (with_parts x r) place)) (parts-are r.parts s same) b.held))
+    (λ changed. cond_both (is_valued r) pastes [] (λ ls. Stand q n (each_of direct ls) → Turns q C m (with_parts s r) (each_of direct ls) n)
+    (λ valued stand.
     let other : r.parts ≡ s → ⊥ = λ e. false≢true (sym changed ∙ ap (same_parts r.parts) (sym e) ∙ parts-itself r.parts) in
     let filled = pastes-filled q d r.parts s old new (root_array r) line (contents_before q n) b.fits fit
     (λ from at. (b.held from at (valued-child r from b.whole valued at)).value ∙ child-window r from)
     (λ to at. cell-dims q C m d s f to cells laid t at)
     (λ to at from there. differs (new to) (old from) (λ e. other (sym (cells-apart C m m d d s r.parts f b.first to from laid t b.taken at there e).1)))
     (own_cells C m d s f laid t) in
-    turns_filled q C m (with_parts s r) (each_of (paste_row old new line) (pastes_of d r.parts s)) n stand (record { value = λ place inside. filled.value place inside ∙ sym (child-window (with_parts s r) place); others = filled.others })
-    (λ place inside. ap (λ ls. one_gives ls (new place)) (rows-by_child d r.parts s old new line) ∙ blocks-give (rows_to d r.parts s old new line) s place (new place) inside (pastes-give d r.parts s old new line place b.fits fit inside))
-
-turns_by : (q : Program) (C : Laid) (m : ℕ) (r : RootState) (s : Parts) (line : Line) (n f : ℕ) → HasCells q C → AreLaid C → HasRoot q C n (contents_before q n) m r → HasTakenPlan C m r.dims s f
-    → (is_valued r || has_no_value r) ≡ true → Stand q n (planned_rows r C m s line) → Turns q C m (with_parts s r) (planned_rows r C m s line) n
-turns_by q C m r s line n f cells laid b t even =
-    let pastes = each_of (paste_row (cell_of C m r.parts) (cell_of C m s) line) (pastes_of r.dims r.parts s) in
-    let P : List Lowered → Type 0 = λ ls. Stand q n ls → Turns q C m (with_parts s r) ls n in
-    cond_both (same_parts r.parts s) [] (cond (is_valued r) pastes []) P
-    (λ same stand. turns_idle q C m (with_parts s r) n
-    (subst (λ (x : Parts). (place : ℕ × ℕ) → IsPlace x place → is_valued_child (with_parts x r) place ≡ true → IsHeld q n (contents_before q n) (cell_of C m x place) (child_array (with_parts x r) place)) (parts-are r.parts s same) b.held))
-    (λ changed. cond_both (is_valued r) pastes [] P
-    (λ valued stand. turns_pasted q C m r s line n f stand cells laid b t changed valued)
+    subst (λ ls. Turns q C m (with_parts s r) ls n) (sym same)
+    (turns_filled q C m (with_parts s r) pastes n (subst (Stand q n) same stand) (record { value = λ place inside. filled.value place inside ∙ sym (child-window (with_parts s r) place); others = filled.others })
+    (λ place inside. ap (λ ls. one_gives ls (new place)) (rows-by_child d r.parts s old new line) ∙ blocks-give (rows_to d r.parts s old new line) s place (new place) inside (pastes-give d r.parts s old new line place b.fits fit inside))))
     (λ none stand. turns_idle q C m (with_parts s r) n (λ place inside h.
-    absurd (blank-child (with_parts s r) place b.whole (sym (ap (λ x. x || has_no_value r) none) ∙ even) (laid.fits m r.dims s f t) inside h))))
-
-pub keeps-planned : (q : Program) (C : Laid) (n : ℕ) (rs : List RootState) (line : Line) (m : ℕ) (p : Parts) → IsSoundPlanAt rs m → Fits p (root_at rs m).dims → AreLaid C → HaveCopies q.workers C → HaveRoots q C n (contents_before q n) rs → length C.handles ≡ length rs
-    → let D = take m p C in let ls = planned_rows (root_at rs m) D m p line in HasCells q D → Stand q n ls → Keeps q D (change_at (with_parts p) m rs) n ls
-keeps-planned q C n rs line m p sound fit a copies has counted cells stand =
-    let r = root_at rs m in
-    let D = take m p C in
-    let had = has m sound.lives in
-    let there : m < length C.handles = omega (arith, counted, lives-below rs m sound.lives) in
-    let stays = root-kept q C D n n (contents_before q n) (contents_before q n) m r had (take-keeps C m p there m r.dims r.parts had.first had.taken) (omega arith) (λ place inside. refl) in
-    keeps_taken q C C n rs (change_at (with_parts p) m rs) m (with_parts p r) (planned_rows r D m p line) has (λ u d s g t. t) a copies there had.taken.dims fit had.whole (counted ∙ sym (length-set rs m (with_parts p r)))
-    (changed-here (with_parts p) m rs sound.lives) (λ u other. changed-beside (with_parts p) m u rs other) stand (λ f laid t. turns_by q D m r p line n f cells laid stays t sound.even stand)
+    absurd (blank-child (with_parts s r) place b.whole (sym (ap (λ x. x || has_no_value r) none) ∙ even) fit inside h))))

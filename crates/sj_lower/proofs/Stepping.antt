@@ -1,96 +1,66 @@
 -- Statement by statement the cells of the program without phases agree with the job's roots, by their numbers.
-use Rattle.sj_lower.proofs.Words.{[], access, Act, active_cells, ap, apply_at, area, AreLaid, arith, Bool, by_number, Cell, cell_of, change_at, child, closing, cond, Contents, contributed, deliver_row, Dims, direct, direct_mode, each_of, false, Fill, fill_row, get_or-set_other, get_or-set_same, HasTakenPlan, HaveCopies, Init, Invalidates, is_first, is_redux, is_valued, IsPlacedAt, IsSoundAt, Kernel, Laid, length, Line, List, Lives, load_row, load_rows, Lowered, Mode, no_root, no_values, None, Nothing, open_at, OpenReductions, Operand, operand_array_at, out, own_task, Parts, Paste, paste_arguments, paste_row, PasteKernel, pastes_of, places, plain_rows, plan_block, Plans, print_block, Prints, Program, R, Reduces, Reduction, refl, Registers, root_at, RootState, RW, same_parts, step_of, subst, sym, take, Tasks, true, Unregisters, Values, W, with_elements, with_handle, with_print, with_reduction, written_of, ℕ, ◌+◌, ◌∙◌, ◌∷◌, ◌≡◌}
+use Rattle.sj_lower.proofs.Words.{[], Act, active_cells, ap, apply_at, area, AreLaid, arith, Bool, by_number, Cell, cell_of, child, Contents, contributed, deliver_row, Dims, direct, each_of, Fill, fill_row, get_or-set_other, get_or-set_same, HasTakenPlan, HaveCopies, Init, Invalidates, is_redux, IsPlacedAt, IsSoundAt, Kernel, Laid, length, Line, List, Lives, load_row, load_rows, no_root, no_values, None, Nothing, open_at, OpenReductions, operand_array_at, out, Parts, places, plain_rows, plan_block, Plans, print_block, Prints, Program, Reduces, refl, Registers, root_at, RootState, step_of, subst, sym, take, Tasks, Unregisters, Values, with_elements, with_handle, with_print, with_reduction, written_of, ℕ, ◌+◌, ◌∙◌, ◌∷◌, ◌≡◌, fold, with_copies, ◌<◌, ◌++◌, Handle, handle_of, length-append, registered_root, with_parts, change_at}
 use Rattle.std.proofs.Math.ListN.{set}
-use Rattle.std.proofs.lemmas.{Bool.cond_both, List.length-replicate, List.length-set, Simd.map-map}
-use Rattle.sj_base.proofs.{Lists.each-weaker, Numbers.none_more}
+use Rattle.std.proofs.lemmas.{List.length-replicate, List.length-set, Simd.map-map}
+use Rattle.sj_base.proofs.{Numbers.none_more}
 use Rattle.sj_meaning.proofs.Timely.{length-put}
-use Rattle.sj_lower.proofs.{Agrees.Agrees, Agrees.AreOpenChildren, Contents.contents_before, Contributing.fold-handles, Contributing.laid-contributed, Contributing.of_redux, Contributing.roots-copied, Contributing.roots-task, Copying.copies-as, Doing.the_cell, Elements.blank-child, Elements.no_values-blank, Filling.after_delivers, Folding.after_rows, Folding.contents-rows, Folding.Stand, Keeping.changed-beside, Keeping.changed-here, Keeping.HasCells, Keeping.HasRoot, Keeping.HaveRoots, Keeping.holds-changed, Keeping.holds-later, Keeping.lives-below, Starting.keeps-planned, Starting.keeps-registered, Starting.planned_rows, Taken.laid-as, Taken.taken-as}
-pub use Rattle.sj_lower.proofs.Starting.{Keeps}
+use Rattle.sj_lower.proofs.{Agrees.Agrees, Agrees.AreOpenChildren, Contents.contents_before, Contributing.each-kept, Contributing.fold-handles, Contributing.laid-contributed, Contributing.roots-copied, Contributing.roots-task, Copying.copies-as, Copying.copies-root, Doing.the_cell, Elements.blank-child, Elements.no_values-blank, Filling.after_delivers, Folding.Stand, Folding.after_rows, Folding.contents-rows, Keeping.changed-here, Keeping.changed-beside, Keeping.HasCells, Keeping.HasRoot, Keeping.HaveRoots, Keeping.holds-changed, Keeping.holds-later, Keeping.lives-below, Keeping.root-kept, Starting.Keeps, Starting.direct-each, Starting.keeps_taken, Starting.pushed-beside, Starting.pushed-there, Starting.starts, Starting.turns_by, Taken.keeps-root, Taken.laid-as, Taken.laid-root, Taken.root-there, Taken.take-keeps, Taken.taken-as}
+use Rattle.sj_meaning.proofs.Children.{first_length}
 
 -- ---- the tasks that no task line names are what they are without phases
-
-direct-each : {X : Type 0} (row : X → Lowered) → ((x : X) → direct (row x) ≡ row x) → (xs : List X) → each_of direct (each_of row xs) ≡ each_of row xs
-direct-each row h xs = map-map direct row xs ∙ (λ i. each_of (λ x. h x i) xs)
 
 pub direct-loads : (i : Init) (d : Dims) (p : Parts) (cell : ℕ × ℕ → Cell) (line : Line) → each_of direct (load_rows i d p cell line) ≡ load_rows i d p cell line
 direct-loads (Values xs) d p cell line = direct-each (λ place. load_row xs d (child d p place) (cell place) line) (λ place. refl) (places p)
 direct-loads (Fill a b) d p cell line = direct-each (λ place. fill_row a b d (child d p place) (cell place) line) (λ place. refl) (places p)
 direct-loads Nothing d p cell line = refl
 
-direct-paste : (old new : ℕ × ℕ → Cell) (line : Line) (x : Paste) → direct (paste_row old new line x) ≡ paste_row old new line x
-direct-paste old new line x =
-    let mk : Mode → Lowered = λ m. own_task PasteKernel (paste_arguments x) (access R (old x.from) ∷ access m (new x.to) ∷ []) line in
-    ap mk (cond_both (is_first x) W RW (λ m. direct_mode m ≡ m) (λ e. refl) (λ e. refl))
-
 pub direct-delivers : (cell : ℕ × ℕ → Cell) (line : Line) (ps : List (ℕ × ℕ)) → each_of direct (each_of (λ c. deliver_row c line) (each_of cell ps)) ≡ each_of (λ place. deliver_row (cell place) line) ps
 direct-delivers cell line ps = map-map direct (λ (c : Cell). deliver_row c line) (each_of cell ps) ∙ map-map (λ (c : Cell). deliver_row c line) cell ps
 
--- the tasks of a plan line
-pub plain-plan : (r : RootState) (old : List Cell) (C : Laid) (m : ℕ) (p : Parts) (line : Line) → plain_rows (plan_block r old C m p line) ≡ planned_rows r C m p line
-plain-plan r old C m p line = by_tests (same_parts r.parts p) (is_valued r)
-  where
-    pastes : List Lowered
-    pastes = each_of (paste_row (cell_of C m r.parts) (cell_of C m p) line) (pastes_of r.dims r.parts p)
-
-    by_tests : (b v : Bool) → plain_rows (cond b (closing line [] []) (closing line old (cond v pastes []))) ≡ cond b [] (cond v pastes [])
-    by_tests true v = refl
-    by_tests false true = direct-each (paste_row (cell_of C m r.parts) (cell_of C m p) line) (direct-paste (cell_of C m r.parts) (cell_of C m p) line) (pastes_of r.dims r.parts p)
-    by_tests false false = refl
-
 -- ---- the statements that leave the cells
 
--- no tasks
-keeps-idle : (q : Program) (C : Laid) (rs : List RootState) (n : ℕ) → AreLaid C → HaveCopies q.workers C → HaveRoots q C n (contents_before q n) rs → length C.handles ≡ length rs → Keeps q C rs n []
-keeps-idle q C rs n a copies roots counted = record { laid = a; copies = copies; roots = subst (λ (k : ℕ). HaveRoots q C k (contents_before q k) rs) (sym (none_more n)) roots; counted = counted }
-
--- a change of one root that keeps its plan, its dimensions and what its children hold
-changed-roots : (q : Program) (C : Laid) (n : ℕ) (rs : List RootState) (m : ℕ) (f : RootState → RootState) → Lives rs m → HaveRoots q C n (contents_before q n) rs → (HasRoot q C n (contents_before q n) m (root_at rs m) → HasRoot q C n (contents_before q n) m (f (root_at rs m))) → HaveRoots q C n (contents_before q n) (change_at f m rs)
-changed-roots q C n rs m f there has step =
-    holds-changed q C n (contents_before q n) rs (change_at f m rs) m (f (root_at rs m)) (changed-here f m rs there) (λ u other. changed-beside f m u rs other) (λ lives. step (has m there)) (λ u other lives. has u lives)
-
-ended-roots : (q : Program) (C : Laid) (n : ℕ) (rs : List RootState) (m : ℕ) → Lives rs m → HaveRoots q C n (contents_before q n) rs → HaveRoots q C n (contents_before q n) (set rs m no_root)
-ended-roots q C n rs m there has =
-    holds-changed q C n (contents_before q n) rs (set rs m no_root) m no_root (get_or-set_same rs m no_root no_root (lives-below rs m there)) (λ u other. get_or-set_other rs m u no_root no_root other)
-    (λ lives. absurd (omega (arith, lives))) (λ u other lives. has u lives)
-
-blank-root : (q : Program) (C : Laid) (n : ℕ) (k : Contents) (m : ℕ) (r : RootState) → HasRoot q C n k m r → HasRoot q C n k m (with_elements (no_values r.dims) r)
-blank-root q C n k m r o =
-    let whole : length (no_values r.dims) ≡ area r.dims = length-replicate (area r.dims) None in
-    record {
-      fits = o.fits;
-      whole = whole;
-      first = o.first;
-      taken = o.taken;
-      held = λ place inside v. absurd (blank-child (with_elements (no_values r.dims) r) place whole (no_values-blank (area r.dims)) o.fits inside v);
-    }
-
-reduced-root : (q : Program) (C : Laid) (n : ℕ) (k : Contents) (m : ℕ) (r : RootState) (by : Reduction) → HasRoot q C n k m r → HasRoot q C n k m (with_reduction by r)
-reduced-root q C n k m r by o = record { fits = o.fits; whole = o.whole; first = o.first; taken = o.taken; held = o.held }
-
--- ---- a task
+-- no tasks, and one root is changed
+keeps-set : (q : Program) (C : Laid) (rs : List RootState) (n m : ℕ) (x : RootState) → Lives rs m → AreLaid C → HaveCopies q.workers C → HaveRoots q C n (contents_before q n) rs → length C.handles ≡ length rs → (0 < area x.dims → HasRoot q C n (contents_before q n) m x) → Keeps q C (set rs m x) n []
+keeps-set q C rs n m x there a copies has counted now =
+    let roots = holds-changed q C n (contents_before q n) rs (set rs m x) m x (get_or-set_same rs m x no_root (lives-below rs m there)) (λ u other. get_or-set_other rs m u x no_root other) now (λ u other lives. has u lives) in
+    record { laid = a; copies = copies; roots = subst (λ (k : ℕ). HaveRoots q C k (contents_before q k) (set rs m x)) (sym (none_more n)) roots; counted = counted ∙ sym (length-set rs m x) }
 
 -- ---- one statement more
 
 pub keeps-step : (has : Kernel → Bool) (q : Program) (C : Laid) (n : ℕ) (rs : List RootState) (line : Line) (a : Act ℕ) → IsSoundAt has rs a → AreLaid C → HaveCopies q.workers C → HaveRoots q C n (contents_before q n) rs → length C.handles ≡ length rs
     → let x = step_of q.workers (by_number rs) C line a in HasCells q x.laid → Stand q n (plain_rows x.block) → Keeps q x.laid (apply_at a rs) n (plain_rows x.block)
 keeps-step has q C n rs line (Registers r) s a copies roots counted cells stand =
-    let D = take (length C.handles) r.parts (with_handle r.dims C) in
-    let same = direct-loads r.init r.dims r.parts (cell_of D (length C.handles) r.parts) line in
-    subst (Keeps q D (apply_at (Registers r) rs) n) (sym same) (keeps-registered q C n rs line r s a copies counted roots cells (subst (Stand q n) same stand))
+    let m = length C.handles in
+    let B = with_handle r.dims C in
+    let D = take m r.parts B in
+    let long = length-append C.handles (handle_of r.dims ∷ []) in
+    let same = direct-loads r.init r.dims r.parts (cell_of D m r.parts) line in
+    let standing = subst (Stand q n) same stand in
+    subst (Keeps q D (rs ++ registered_root r ∷ []) n) (sym same)
+    (keeps_taken q C B n rs (rs ++ registered_root r ∷ []) m (registered_root r) (load_rows r.init r.dims r.parts (cell_of D m r.parts) line) roots (keeps-root C r.dims) (laid-root C r.dims a s.elements) (copies-root q.workers C r.dims copies)
+    (omega (arith, long)) (ap (λ (h : Handle). h.dims) (root-there C r.dims m refl)) s.parts (first_length r.init r.dims s.values) (omega (arith, long, length-append rs (registered_root r ∷ []), counted))
+    (pushed-there rs (registered_root r) m counted) (λ u other. pushed-beside rs (registered_root r) u (λ e. other (e ∙ sym counted))) standing (λ f laid t. starts q D m r.kind r.init r.dims r.parts line n f s.parts s.values cells laid t standing))
 keeps-step has q C n rs line (Plans m p) s a copies roots counted cells stand =
+    let r = root_at rs m in
+    let old = active_cells (by_number rs) C m in
     let D = take m p C in
-    let same = plain-plan (root_at rs m) (active_cells (by_number rs) C m) D m p line in
-    subst (Keeps q D (apply_at (Plans m p) rs) n) (sym same) (keeps-planned q C n rs line m p s.0 s.1 a copies roots counted cells (subst (Stand q n) same stand))
+    let had = roots m s.0.lives in
+    let there : m < length C.handles = omega (arith, counted, lives-below rs m s.0.lives) in
+    let stays = root-kept q C D n n (contents_before q n) (contents_before q n) m r had (take-keeps C m p there m r.dims r.parts had.first had.taken) (omega arith) (λ place inside. refl) in
+    keeps_taken q C C n rs (change_at (with_parts p) m rs) m (with_parts p r) (plain_rows (plan_block r old D m p line)) roots (λ u d s g t. t) a copies there had.taken.dims s.1 had.whole (counted ∙ sym (length-set rs m (with_parts p r)))
+    (changed-here (with_parts p) m rs s.0.lives) (λ u other. changed-beside (with_parts p) m u rs other) stand (λ f laid t. turns_by q D m r p line old n f cells laid stays t s.0.even stand)
 keeps-step has q C n rs line (Reduces m by) s a copies roots counted cells stand =
-    keeps-idle q C (change_at (with_reduction by) m rs) n a copies (changed-roots q C n rs m (with_reduction by) s.0 roots (reduced-root q C n (contents_before q n) m (root_at rs m) by)) (counted ∙ sym (length-set rs m (with_reduction by (root_at rs m))))
+    let o = roots m s.0 in
+    keeps-set q C rs n m (with_reduction by (root_at rs m)) s.0 a copies roots counted (λ lives. record { fits = o.fits; whole = o.whole; first = o.first; taken = o.taken; held = o.held })
 keeps-step has q C n rs line (Tasks t) s a copies roots counted cells stand =
-    let placed = each-weaker (λ (u : Operand ℕ). IsPlacedAt rs u × (is_redux u.mode ≡ true)) (IsPlacedAt rs) (λ u h. h.0) (contributed t) (of_redux (IsPlacedAt rs) t.operands s.placed) in
-    let laid = laid-contributed q C n (contents_before q n) rs (contributed t) a copies roots placed in
+    let D = fold (with_copies q.workers) C (each_of (the_cell rs C) (contributed t)) in
+    let laid = laid-contributed q C n (contents_before q n) rs (contributed t) a copies roots (each-kept (IsPlacedAt rs) (λ o. is_redux o.mode) t.operands s.placed) in
+    let handles = fold-handles q.workers (each_of (the_cell rs C) (contributed t)) C in
     record {
       laid = laid.0;
       copies = laid.1;
-      roots = roots-task has q C n rs t line s a copies roots cells stand;
-      counted = ap length (fold-handles q.workers (each_of (the_cell rs C) (contributed t)) C) ∙ counted ∙ sym (length-put (written_of t.operands) (out t.codelet t.args (each_of (operand_array_at rs) t.operands)) rs);
+      roots = roots-task has q D n rs t line s cells laid.0 (roots-copied q C D n (contents_before q n) rs handles roots) stand;
+      counted = ap length handles ∙ counted ∙ sym (length-put (written_of t.operands) (out t.codelet t.args (each_of (operand_array_at rs) t.operands)) rs);
     }
 keeps-step has q C n rs line (Prints m) s a copies roots counted cells stand =
     let r = root_at rs m in
@@ -106,9 +76,12 @@ keeps-step has q C n rs line (Prints m) s a copies roots counted cells stand =
       counted = counted;
     }
 keeps-step has q C n rs line (Invalidates m) s a copies roots counted cells stand =
-    keeps-idle q C (change_at (λ r. with_elements (no_values r.dims) r) m rs) n a copies (changed-roots q C n rs m (λ r. with_elements (no_values r.dims) r) s roots (blank-root q C n (contents_before q n) m (root_at rs m))) (counted ∙ sym (length-set rs m (with_elements (no_values (root_at rs m).dims) (root_at rs m))))
-keeps-step has q C n rs line (Unregisters m) s a copies roots counted cells stand =
-    keeps-idle q C (set rs m no_root) n a copies (ended-roots q C n rs m s roots) (counted ∙ sym (length-set rs m no_root))
+    let o = roots m s in
+    let d = (root_at rs m).dims in
+    let x = with_elements (no_values d) (root_at rs m) in
+    let whole : length (no_values d) ≡ area d = length-replicate (area d) None in
+    keeps-set q C rs n m x s a copies roots counted (λ lives. record { fits = o.fits; whole = whole; first = o.first; taken = o.taken; held = λ place inside v. absurd (blank-child x place whole (no_values-blank (area d)) o.fits inside v) })
+keeps-step has q C n rs line (Unregisters m) s a copies roots counted cells stand = keeps-set q C rs n m no_root s a copies roots counted (λ lives. absurd (omega (arith, lives)))
 
 -- after one statement more
 pub agrees-step : (has : Kernel → Bool) (q : Program) (C : Laid) (n : ℕ) (rs : List RootState) (was : OpenReductions) (line : Line) (a : Act ℕ) → IsSoundAt has rs a → Agrees q C rs n was
