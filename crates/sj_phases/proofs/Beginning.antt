@@ -1,6 +1,6 @@
 -- The log of phases where a phase begins.
 use Rattle.sj_phases.proofs.Words.{[], Access, access, ap, arith, begin_rows, Bool, Cell, cond, Contains, copy_at, false, first_units, init_of, init_row, init_rows, inl, inr, IsInit, IsPlain, kernel_of, length, length-append, Line, List, Lowered, names_as, None, OpenPhase, phase_at, PhaseOpening, Program, Redux, refl, Some, subst, sym, task_number, true, W, with_phase, ℕ, ◌+◌, ◌-◌, ◌<◌, ◌∙◌, ◌∷◌, ◌≡◌, ◌≤◌}
-use Rattle.std.proofs.lemmas.{Bool.cases_lt, Bool.false≢true, List.FromFn.length-map-range_with_len}
+use Rattle.std.proofs.lemmas.{Bool.cases_lt, Bool.cond_both, Bool.false≢true, List.FromFn.length-map-range_with_len}
 use Rattle.sj_codelet.proofs.Table.{kernel_of-codelet_of}
 use Rattle.sj_phases.proofs.{Combined.Phases, Folding.Stand, Folding.stand-append, Lists.one-case, Logging.CellInit, Logging.CopyInit, Logging.InOpen, Logging.IsInner, Logging.IsLogged, Logging.IsToCome, Logging.log-turned, Logging.Logged, Logging.none_isn't, Logging.row-at, Logging.row-of, Logging.some_is, Owning.IsOwn}
 pub use Rattle.sj_phases.proofs.Logging.{AreApart}
@@ -27,12 +27,9 @@ module _ (p : Program) (n : ℕ) (o : PhaseOpening) (line : Line) (stand : Stand
   pub beginner : (m : ℕ) → n ≤ m → m < n + length (begin_rows p.workers o line) → Beginner p n o line m
   beginner m lo hi = elim (cases_lt m (n + p.workers)) [
     | inl early ↦ OfCopy early (row-at p (λ w. init_row o.by line (copy_at o.copies w)) n begin-parts.0 m lo early)
-    | inr late ↦ by_valued o.valued begin-parts.1 (omega (arith, hi, begin-length)) late
+    | inr late ↦ cond_both {A = List Lowered} o.valued [] (init_row o.by line o.cell ∷ []) (λ ls. Stand p (n + p.workers) ls → m < (n + p.workers) + length ls → Beginner p n o line m) (λ v s hi. absurd (omega (arith, hi, late)))
+        (λ v s hi. let same : m ≡ n + p.workers = omega (arith, hi, late) in OfCell same (ap (task_number p) same ∙ s.0)) begin-parts.1 (omega (arith, hi, begin-length))
   ]
-    where
-      by_valued : (v : Bool) → Stand p (n + p.workers) (cond v [] (init_row o.by line o.cell ∷ [])) → m < (n + p.workers) + length (cond v [] (init_row o.by line o.cell ∷ [])) → n + p.workers ≤ m → Beginner p n o line m
-      by_valued true s hi late = absurd (omega (arith, hi, late))
-      by_valued false s hi late = let same : m ≡ n + p.workers = omega (arith, hi, late) in OfCell same (ap (task_number p) same ∙ s.0)
 
 -- ---- the log
 
@@ -53,9 +50,6 @@ module _ (p : Program) (n k : ℕ) (phases : Phases) (ls : List Lowered) (o : Ph
     | OfCell here row ↦ subst (IsInner p c o.copies (m - n)) (written c m a row h) (record { direct = refl; there = inr refl })
   ]
 
-  none_gives : (m : ℕ) (d : Cell) → n ≤ m → m < k → names_as Redux d (task_number p m) → ⊥
-  none_gives m d lo hi h = false≢true (sym (inner m (access Redux d) lo hi h).direct)
-
   fresh_log : IsLogged p k c o.by o.copies n
   fresh_log = record {
     begun = omega (arith, e, begin-length p n o line stand);
@@ -64,7 +58,7 @@ module _ (p : Program) (n k : ℕ) (phases : Phases) (ls : List Lowered) (o : Ph
       | OfCopy early row ↦ CopyInit early
       | OfCell here row ↦ CellInit (init_is c m row) (λ j late names. elim (cases_lt m j) [
         | inl later ↦ later
-        | inr past ↦ absurd (none_gives j c (omega (arith, late)) (omega (arith, past, hi)) names)
+        | inr past ↦ absurd (false≢true (sym (inner j (access Redux c) (omega (arith, late)) (omega (arith, past, hi)) names).direct))
       ])
     ];
   }

@@ -64,9 +64,6 @@ opening-of p tasks was (x ∷ os) o h c = elim (cons-cases x os o c) [
 -- ---- what blocks need, said of another program of the same cells
 
 module _ (p q : Program) (twins : AreTwins p q) where
-  task-twin : (was : OpenReductions) (l : Lowered) → IsOrderlyTask q was l → IsOrderlyTask p was l
-  task-twin was l h = record { plain = λ k d lt. twin-plain p q twins (get_or l.accesses k d).cell (h.plain k d lt); shut = h.shut; contributes = h.contributes }
-
   openings-twin : (tasks : List Lowered) (was : OpenReductions) (os : List PhaseOpening) → AreOpenings q tasks was os → AreOpenings p tasks was os
   openings-twin tasks was [] h = tt
   openings-twin tasks was (o ∷ os) h = (record { used = h.0.used; valued = h.0.valued; copies = ap (λ (i : CellInfo). i.partials) (twin-info p q twins o.cell) ∙ h.0.copies }, openings-twin tasks (with_opening was o) os h.1)
@@ -74,7 +71,7 @@ module _ (p q : Program) (twins : AreTwins p q) where
   pub orderly-twin : (was : OpenReductions) (bs : List TaskBlock) → AreOrderly q was bs → AreOrderly p was bs
   orderly-twin was [] h = tt
   orderly-twin was (b ∷ bs) h = (
-    record { tasks = λ k d lt. task-twin (open_at was b) (get_or b.tasks k d) (h.0.tasks k d lt); openings = openings-twin b.tasks (shut_by was b) b.opens h.0.openings; delivered = h.0.delivered },
+    record { tasks = λ k d lt. (let t = h.0.tasks k d lt in record { plain = λ i e l. twin-plain p q twins (get_or (get_or b.tasks k d).accesses i e).cell (t.plain i e l); shut = t.shut; contributes = t.contributes }); openings = openings-twin b.tasks (shut_by was b) b.opens h.0.openings; delivered = h.0.delivered },
     orderly-twin (open_at was b) bs h.1,
   )
 
@@ -89,10 +86,6 @@ stand-at p n (x ∷ ls) l (suc i) s lt e =
     (ap (λ k. task_of p (task k)) (one_more n i) ∙ rest.0, omega (arith, rest.1))
 
 module _ (p q : Program) (twins : AreTwins p q) (proper : Proper q) where
-  fine-closes : (cs : List Cell) (E : Expansion) (us : List Lowered) (was : OpenReductions) → Begins p.tasks (fold (closed p.workers) E cs).tasks → Fine p q E.tasks E.phase us [] was → Fine p q (fold (closed p.workers) E cs).tasks (fold (closed p.workers) E cs).phase us [] (fold with_shut was cs)
-  fine-closes cs E us was b fine = fold_along (closed p.workers) with_shut (λ (F : Expansion) (o : OpenReductions). Begins p.tasks F.tasks → Fine p q F.tasks F.phase us [] o)
-      (λ F o c before here. fine-close p q twins proper F us o c here (before (begins-less p.tasks F.tasks (closed p.workers F c).tasks (goes-closed p.workers F c) here))) E was cs (λ here. fine) b
-
   -- what opening a phase needs of the tasks to come
   abbrev CanOpen : PhaseOpening → Type 0
   CanOpen o = IsPlain p o.cell × (IsTrusted p → IsReduction out o.by)
@@ -147,7 +140,8 @@ module _ (p q : Program) (twins : AreTwins p q) (proper : Proper q) where
     fine-ready =
         let ready_begins = begins-less p.tasks Ready.tasks (expanded p.workers E b).tasks (b.tasks, refl) begins in
         let left = fold (closed p.workers) E b.closes in
-        let shut = fine-closes b.closes E us was (begins-less p.tasks left.tasks Ready.tasks (goes-opens p.workers b.line b.opens left) ready_begins) fine in
+        let shut = fold_along (closed p.workers) with_shut (λ (F : Expansion) (o : OpenReductions). Begins p.tasks F.tasks → Fine p q F.tasks F.phase us [] o)
+        (λ F o c before here. fine-close p q twins proper F us o c here (before (begins-less p.tasks F.tasks (closed p.workers F c).tasks (goes-closed p.workers F c) here))) E was b.closes (λ here. fine) (begins-less p.tasks left.tasks Ready.tasks (goes-opens p.workers b.line b.opens left) ready_begins) in
         fine-opens b.opens left us (us ++ units b) b.tasks (shut_by was b) b.line refl orderly.openings can ready_begins (begins-less q.tasks (us ++ units b) (us ++ plain_rows b) (map direct b.tasks, sym split) plain_begins)
         (record { good = shut.good; logged = log-come p (length left.tasks) left.phase b.tasks shut.logged; values = shut.values; owned = shut.owned; linked = shut.linked; holds = shut.holds })
 

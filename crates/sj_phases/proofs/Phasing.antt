@@ -49,9 +49,6 @@ pub after_init : (p : Program) (k : Contents) (by : Reduction) (line : Line) (c 
 after_init p k Plus line c = refl
 after_init p k Least line c = refl
 
-abbrev inits : Reduction → Cell → Line → List ℕ → List Lowered
-inits by first line ws = map (λ w. init_row by line (copy_at first w)) ws
-
 -- the cell holds its unit afterwards, and each other cell what it held
 init-own : (p : Program) (k : Contents) (by : Reduction) (line : Line) (c : Cell) → held_in p (after_row p k (init_row by line c)) c ≡ unit_at p by c
 init-own p k by line c = ap (λ (n : Contents). held_in p n c) (after_init p k by line c) ∙ held-same p c (unit_at p by c) k
@@ -68,7 +65,7 @@ init-keeps : (p : Program) (k : Contents) (by : Reduction) (line : Line) (c d : 
 init-keeps p k by line c = each_cell c (λ d. held_in p k d ≡ unit_at p by d → held_in p (after_row p k (init_row by line c)) d ≡ unit_at p by d)
     (λ e. init-own p k by line c) (λ d other e. init-other p k by line c d other ∙ e)
 
-inits-value : (p : Program) (by : Reduction) (first : Cell) (line : Line) (ws : List ℕ) (w : ℕ) → Contains ws w → (k : Contents) → held_in p (after_rows p k (inits by first line ws)) (copy_at first w) ≡ unit_at p by (copy_at first w)
+inits-value : (p : Program) (by : Reduction) (first : Cell) (line : Line) (ws : List ℕ) (w : ℕ) → Contains ws w → (k : Contents) → held_in p (after_rows p k (map (λ w. init_row by line (copy_at first w)) ws)) (copy_at first w) ≡ unit_at p by (copy_at first w)
 inits-value p by first line [] w h k = absurd (none-has w h)
 inits-value p by first line (v ∷ ws) w h k = elim (cons-cases v ws w h) [
   | inl same ↦ rows-hold p (λ n. held_in p n (copy_at first w) ≡ unit_at p by (copy_at first w)) (λ u. init_row by line (copy_at first u)) ws (λ u e n. init-keeps p n by line (copy_at first u) (copy_at first w)) (after_row p k (init_row by line (copy_at first v)))
