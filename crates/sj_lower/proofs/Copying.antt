@@ -3,6 +3,7 @@ use Rattle.sj_lower.proofs.Words.{[], a_root, All, ap, area, AreLaid, arith, Cel
 use Rattle.std.proofs.lemmas.{Bool.cases_eq, Bool.cases_lt, List.Elements.All-append, List.Elements.All-get_or, List.Elements.All-map, List.Elements.All-replicate, List.Elements.All-set, List.get_or-append_right, List.get_or-replicate, List.get_or-set_other, List.get_or-set_same, List.get_or_append_left, List.get_or_past, List.length-replicate, List.length-set, List.set_past}
 use Rattle.sj_base.proofs.SameIds.{cell_of_number}
 use Rattle.sj_lower.proofs.{Growing.append-partials, Growing.Grows, Growing.grows-append, Growing.grows-refl, Growing.has-row, Growing.NoneHas, Growing.row_at, Places.number-below, Taken.by_first, Taken.laid-as, Taken.New, Taken.none_isn't, Taken.Old, Taken.old_or_new, Taken.some_is, Taken.taken-as, Taken.taken-root}
+use Rattle.sj_phases.proofs.Lists.{by_option}
 
 pub copies-none : (workers : ℕ) → HaveCopies workers no_cells
 copies-none workers = record {
@@ -87,11 +88,7 @@ pub first-old : (C : Laid) (c f : Cell) → (info_at C c).partials ≡ Some f �
 first-old C c f e = ap (λ (o : Option Cell). unwrap_or o (next_cell C)) e
 
 pub by_copies : (workers : ℕ) (c : Cell) (C : Laid) (P : Laid → Type 0) → ((f : Cell) → (info_at C c).partials ≡ Some f → P C) → ((info_at C c).partials ≡ None → P (Copied workers c C)) → P (with_copies workers C c)
-by_copies workers c C P old new = by_partials (info_at C c).partials refl
-  where
-    by_partials : (o : Option Cell) → (info_at C c).partials ≡ o → P (cond (is_some o) C (Copied workers c C))
-    by_partials None e = new e
-    by_partials (Some f) e = old f e
+by_copies workers c C P old new = by_option (info_at C c).partials (λ o. P (cond (is_some o) C (Copied workers c C))) new old
 
 pub copies-prints : (w : ℕ) (cs : List Cell) (C : Laid) → (fold (with_copies w) C cs).prints ≡ C.prints
 copies-prints w [] C = refl

@@ -134,9 +134,6 @@ seen_sized m r place = (refl, child-whole r place)
 all_seen_dims : (rs : List RootState) (os : List (Operand ℕ)) → all_dims (each_of (operand_array_at rs) os) ≡ each_of (child_dims_at rs) os
 all_seen_dims rs os = map-map (λ (a : Array). a.dims) (operand_array_at rs) os ∙ (λ i. each_of (λ (o : Operand ℕ). (seen_sized o.mode (root_at rs o.name) o.place).0 i) os)
 
-all_seen_whole : (rs : List RootState) (os : List (Operand ℕ)) → AreWhole (each_of (operand_array_at rs) os)
-all_seen_whole rs os = each-map IsWhole (operand_array_at rs) os (each-of (λ (o : Operand ℕ). IsWhole (operand_array_at rs o)) (λ o. (seen_sized o.mode (root_at rs o.name) o.place).1) os)
-
 -- the codelet of a task, with its operands in its modes
 pub record HasKernel (t : TaskLine ℕ) (rs : List RootState) : Type 0 where
   pub call : IsCall t.codelet t.args (each_of (child_dims_at rs) t.operands)
@@ -161,7 +158,7 @@ new_dims has rs t s =
 new_whole : (has : Kernel → Bool) (rs : List RootState) (t : TaskLine ℕ) → IsSoundTaskAt has rs t → AreWhole (out t.codelet t.args (each_of (operand_array_at rs) t.operands))
 new_whole has rs t s =
     let k = kernel_there has rs t s in
-    out_whole k.call.kernel t.codelet t.args (each_of (operand_array_at rs) t.operands) k.call.is (ap (fits k.call.kernel t.args) (all_seen_dims rs t.operands) ∙ k.call.fits) (all_seen_whole rs t.operands)
+    out_whole k.call.kernel t.codelet t.args (each_of (operand_array_at rs) t.operands) k.call.is (ap (fits k.call.kernel t.args) (all_seen_dims rs t.operands) ∙ k.call.fits) (each-map IsWhole (operand_array_at rs) t.operands (each-of (λ (o : Operand ℕ). IsWhole (operand_array_at rs o)) (λ o. (seen_sized o.mode (root_at rs o.name) o.place).1) t.operands))
 
 -- ---- the task as a whole
 

@@ -2,7 +2,8 @@
 use Rattle.sj_phases.proofs.Words.{[], All, AllPairs, ap, append_assoc, AreOrderly, arith, begin_rows, Bool, Cell, closed, combine_of, combine_row, combine_rows, cond, copy_at, count_by, Deliver, Delivery, direct, expand, expanded, Expansion, false, first_units, flat_map, fold, get_or, init_row, init_rows, inl, inr, IsDelivered, IsOrderly, Kernel, kernel_of, Least, length, length-append, Line, List, Lowered, map, moved, nat_eq, no_task, None, open_at, opened, OpenReductions, Option, phase_turned, PhaseOpening, plain_next, Plainly, Plus, prepared, Program, range_with_len, Reduction, refl, Some, subst, suc, sym, TaskBlock, units, ℕ, ◌++◌, ◌+◌, ◌-◌, ◌<◌, ◌∙◌, ◌∷◌, ◌≡◌, ◌≤◌}
 use Rattle.std.proofs.lemmas.{Bool.cases_lt, Bool.cond_both, Bool.Decides.Decides-eqb, Bool.ne_eqb, List.Elements.All-append, List.Elements.All-from_recursion, List.Elements.All-get_or, List.Elements.All-head, List.Elements.All-map, List.Elements.All-nil, List.Elements.All-tail, List.Elements.All-weaker, List.get_or-append-add, List.get_or-append_right, List.get_or-map, List.get_or_append_left, List.Kept.AllPairs-cons, List.length-map, List.Sums.sum_by-append, List.Sums.sum_by-cons}
 use Rattle.sj_base.proofs.{Bools.same_test, Lists.sum_by-agree, Lists.sum_by-map}
-use Rattle.sj_phases.proofs.{Blocks.by_closed, Good.IsOther, Good.none-combine, Good.none-init, Lists.by_option, Lists.fold_keeps}
+use Rattle.sj_phases.proofs.{Blocks.by_closed, Good.none-combine, Good.none-init, Lists.by_option, Lists.fold_keeps}
+pub use Rattle.sj_phases.proofs.Good.{IsOther}
 
 -- ---- lists
 

@@ -126,20 +126,15 @@ module _ (rows : List CellInfo) (workers : ℕ) (bs : List TaskBlock) (can : May
           let alike = given-alike (n + i) (m + i) Ready.phase (open_at was x) l holds f.linked (All-contains (IsOrderlyTask p (open_at was x)) x.tasks l h.tasks (Contains-get_or x.tasks i no_task lt)) deliver at.1 at.0 plain_at.0 in
           λ k. (e.root, e.place, e.print, alike k)
 
-      own : map (handed_over p) (map (moved n) x.deliveries) ≡ map (handed_over q) (map (moved m) x.deliveries)
-      own = map-map (handed_over p) (moved n) x.deliveries ∙ map-same (λ e. handed_over p (moved n e)) (λ e. handed_over q (moved m e)) x.deliveries one ∙ sym (map-map (handed_over q) (moved m) x.deliveries)
-
-      handed-block : map (handed_over p) (expanded p.workers F x).deliveries ≡ map (handed_over q) (plain_next Q x).deliveries
-      handed-block =
-          map-append (handed_over p) Ready.deliveries (map (moved n) x.deliveries)
-          ∙ (λ i. (ap (map (handed_over p)) (prepared-deliveries p.workers F x) ∙ same) i ++ own i)
-          ∙ sym (map-append (handed_over q) Q.deliveries (map (moved m) x.deliveries))
-
     pub holds_plain : HoldsPlain rows workers bs
     holds_plain = record {
       held = held;
       handed = (begun-blocks p q (λ F Q o. Fine p q F.tasks F.phase Q.tasks [] o × (map (handed_over p) F.deliveries ≡ map (handed_over q) Q.deliveries))
-          (λ x F Q o h b d before. (fine-block p q twins can.proper F Q.tasks o x h b d before.0, handed-block x F Q o h b d before.0 before.1))
+          (λ x F Q o h b d before.
+          (let n = length (prepared p.workers F x).tasks in let m = length (Q.tasks ++ units x) in
+          let own = map-map (handed_over p) (moved n) x.deliveries ∙ map-same (λ e. handed_over p (moved n e)) (λ e. handed_over q (moved m e)) x.deliveries (one x F Q o h b d before.0 before.1) ∙ sym (map-map (handed_over q) (moved m) x.deliveries) in
+          (fine-block p q twins can.proper F Q.tasks o x h b d before.0, map-append (handed_over p) (prepared p.workers F x).deliveries (map (moved n) x.deliveries)
+          ∙ (λ i. (ap (map (handed_over p)) (prepared-deliveries p.workers F x) ∙ before.1) i ++ own i) ∙ sym (map-append (handed_over q) Q.deliveries (map (moved m) x.deliveries)))))
           bs nothing start none_open orderly ([], sym (append-nil p.tasks)) ([], sym (append-nil q.tasks)) (fine-start p q twins can.proper, refl)).1;
     }
 

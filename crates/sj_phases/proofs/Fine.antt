@@ -114,14 +114,10 @@ module _ (p q : Program) (twins : AreTwins p q) (proper : Proper q) where
 
     -- the phase goes on
     module _ (f : OpenPhase) (is : phases c ≡ Some f) where
-      agrees : (o.valued ≡ true) × (o.by ≡ f.by)
-      agrees = opening.valued f.by (sym (fine.linked c) ∙ ap by_of is)
-
-      copies : f.copies ≡ o.copies
-      copies = some_is f.copies o.copies (sym (fine.owned c f is).partials ∙ opening.copies)
-
       pub fine_longer : Fine p q (ts ++ []) after (us ++ first_units o line) ls (with_opening was o)
       fine_longer =
+          let agrees = opening.valued f.by (sym (fine.linked c) ∙ ap by_of is) in
+          let copies = some_is f.copies o.copies (sym (fine.owned c f is).partials ∙ opening.copies) in
           subst₂ (λ (xs ys : List Lowered). Fine p q xs after ys ls (with_opening was o)) (sym (append-nil ts)) (sym (ap (λ v. us ++ cond v [] (init_row o.by line c ∷ [])) agrees.0 ∙ append-nil us)) (record {
             good = fine.good;
             logged = log-line p (length ts) phases ls c f (phase_at o line) is (sym agrees.1) copies (fine.owned c f is) apart (λ d g h. (fine.owned d g h).plain) fine.logged;
@@ -136,11 +132,8 @@ module _ (p q : Program) (twins : AreTwins p q) (proper : Proper q) where
       abbrev b_rows : List Lowered
       b_rows = begin_rows p.workers o line
 
-      b_stand : Stand p (length ts) b_rows
-      b_stand = begins-stand p ts b_rows b
-
       pub fine_begun : Fine p q (ts ++ b_rows) after (us ++ first_units o line) ls (with_opening was o)
-      fine_begun = record {
+      fine_begun = let b_stand = begins-stand p ts b_rows b in record {
         good = good-more p (length ts) (length (ts ++ b_rows)) fine.good (λ n new lt. elim (beginner p (length ts) o line b_stand n new (omega (arith, lt, length-append ts b_rows))) [
           | OfCopy early row ↦ (let w : Worker = record { 0 = n - length ts } in
               subst (IsGood p n) (sym row) (good_init p n o.by line (copy_at o.copies w.0) (copy_there c o.copies w opening.copies (omega (arith, new, early))).0))
@@ -170,12 +163,6 @@ module _ (p q : Program) (twins : AreTwins p q) (proper : Proper q) where
   -- ---- a block's own task
 
   module _ (ts us : List Lowered) (l : Lowered) (ls : List Lowered) (phases : Phases) (was : OpenReductions) (orderly : IsOrderlyTask p was l) (b : Begins p.tasks (ts ++ l ∷ [])) (d : Begins q.tasks (us ++ direct l ∷ [])) (fine : Fine p q ts phases us (l ∷ ls) was) where
-    o_stand : Stand p (length ts) (l ∷ [])
-    o_stand = begins-stand p ts (l ∷ []) b
-
-    o_plain_stand : Stand q (length us) (direct l ∷ [])
-    o_plain_stand = begins-stand q us (direct l ∷ []) d
-
     contributes : (a : Access) → Contains l.accesses a → is_redux a.mode ≡ true → Contributes was l a.cell
     contributes a h mode = All-contains (λ (a : Access). is_redux a.mode ≡ true → Contributes was l a.cell) l.accesses a orderly.contributes h mode
 
@@ -189,14 +176,15 @@ module _ (p q : Program) (twins : AreTwins p q) (proper : Proper q) where
           (f.0, f.1, record { kernel = con.contribution.kernel; codelet = con.contribution.codelet; contributes = ap (contributes_of con.contribution.kernel) f.2 ∙ con.contribution.contributes; operand = con.contribution.operand });
     }
 
-    its_copies : All (HasItsCopies p (length ts)) l.accesses
-    its_copies = all-from (HasItsCopies p (length ts)) l.accesses (λ a h mode.
+    pub fine-own : Fine p q (ts ++ l ∷ []) phases (us ++ direct l ∷ []) ls was
+    fine-own =
+        let o_stand = begins-stand p ts (l ∷ []) b in
+        let o_plain_stand = begins-stand q us (direct l ∷ []) d in
+        let its_copies = all-from (HasItsCopies p (length ts)) l.accesses (λ a h mode.
         (let g = o_task.gives a.cell (subst (λ (x : Access). Contains l.accesses x) (redux-access a mode) h) in
         let partials = (fine.owned a.cell g.0 g.1).partials in
-        (ap (λ (o : Option Cell). is_some o) partials, λ w below. subst (HasValueBefore p (task (length ts))) (sym (copy-is p a.cell g.0.copies w partials)) (copy_given (length ts) a.cell g.0.by g.0.copies (fine.logged.start a.cell) (fine.logged.opened a.cell g.0 g.1) w.0 below))))
-
-    pub fine-own : Fine p q (ts ++ l ∷ []) phases (us ++ direct l ∷ []) ls was
-    fine-own = record {
+        (ap (λ (o : Option Cell). is_some o) partials, λ w below. subst (HasValueBefore p (task (length ts))) (sym (copy-is p a.cell g.0.copies w partials)) (copy_given (length ts) a.cell g.0.by g.0.copies (fine.logged.start a.cell) (fine.logged.opened a.cell g.0 g.1) w.0 below)))) in
+        record {
       good = good-more p (length ts) (length (ts ++ l ∷ [])) fine.good (λ i new lt. (let same : length ts ≡ i = omega (arith, new, lt, length-append ts (l ∷ [])) in
           subst (λ (x : ℕ). IsGood p x (task_of p (task x))) same (subst (IsGood p (length ts)) (sym o_stand.0)
           (good_own p q twins proper (length us) o_plain_stand.1 l o_plain_stand.0 (length ts) was fine.values contributes its_copies orderly.plain))));

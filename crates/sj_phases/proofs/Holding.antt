@@ -3,7 +3,7 @@ use Rattle.sj_phases.proofs.Words.{[], Access, access, after_task, ap, arith, Ar
 use Rattle.sj_codelet.proofs.{NewArrays.out-makes_tiles, Table.codelet_of-kernel}
 use Rattle.std.proofs.lemmas.{Bool.cond_both, Bool.false_from_ne_true, List.Elements.Contains-append_left, List.map-append}
 use Rattle.sj_core.proofs.{CellLists.same_cell-refl, Copies.direct-cell, Folding.after_task-other, Folding.held-append, Folding.held_over, Folding.held_over-other, Folding.map-same, Modes.reads_isn't_scratch, Modes.written_isn't_scratch, Readiness.Contains-filter, Readiness.Contains-from_filter, Sharing.operand_for, Sized.AreSized, Sized.Fills, Swapping.first_ins, Swapping.Updates, Updating.first-is, Updating.last-is, Values.results-complete}
-use Rattle.sj_phases.proofs.{Adding.added, Adding.all-sized, Adding.denotes-more, Adding.others-kept, Adding.result-more, Adding.sized, Adding.SizedCopies, Adding.updates, Beginning.AreApart, Combined.all_workers, Combined.all_workers-below, Combined.denoted, Combined.denoted-closed, Combined.denoted-open, Combined.denoted-same, Combined.IsTrusted, Combined.Phases, Combined.with_all, Contents.contents_before, Contents.first_worker, Folding.after_row, Folding.after_rows, Folding.after_rows-append, Good.AreTwins, Good.direct-itself, Good.direct-same, Good.map-itself, Good.none-redux, Good.twin-dims, Lists.by_option, Lists.filter-last, Lists.first-has, Lists.more-has, Logging.IsOwnTask, Logging.none_isn't, Logging.phase-other, Logging.phase-own, Logging.redux-access, Logging.some_is, Logging.unlike, Owning.is-copy, Owning.IsOwn, Phasing.closed-others, Phasing.closed-value, Phasing.each_cell, Phasing.inits-copies, Phasing.inits-others, Phasing.IsBare, Phasing.units-others, Phasing.units-same}
+use Rattle.sj_phases.proofs.{Adding.added, Adding.all-sized, Adding.denotes-more, Adding.others-kept, Adding.result-more, Adding.sized, Adding.SizedCopies, Adding.updates, Beginning.AreApart, Combined.all_workers, Combined.all_workers-below, Combined.denoted, Combined.denoted-closed, Combined.denoted-open, Combined.denoted-same, Combined.IsTrusted, Combined.Phases, Combined.with_all, Contents.contents_before, Contents.first_worker, Folding.after_row, Folding.after_rows, Folding.after_rows-append, Good.AreTwins, Good.direct-itself, Good.direct-same, Good.map-itself, Good.none-redux, Good.twin-dims, Lists.by_option, Lists.filter-last, Lists.first-has, Lists.more-has, Logging.IsOwnTask, Logging.none_isn't, Logging.phase-other, Logging.phase-own, Logging.redux-access, Logging.some_is, Logging.unlike, Owning.is-copy, Owning.IsOwn, Phasing.closed-others, Phasing.combines-value, Phasing.each_cell, Phasing.inits-copies, Phasing.inits-others, Phasing.IsBare, Phasing.units-others, Phasing.units-same}
 use Rattle.sj_base.proofs.SameIds.{same_cell-is, same_cell-turned}
 
 -- each cell that is no partial copy denotes what it holds in the program without phases
@@ -31,7 +31,7 @@ module _ (p q : Program) (phases : Phases) (owned : AreOwned p phases) (k j : Co
       let after = with_phase c None phases in
       let left = after_rows p k (combine_rows f c p.workers) in
       each_cell c (λ d. IsPlain p d → denoted p after left d ≡ held_in q j d)
-      (λ plain. denoted-closed p after left c (phase-own c None phases) ∙ closed-value p k f c (bare p c c f.copies plain (owned c f is).partials) ∙ sym (denoted-open p phases k c f is) ∙ holds c plain)
+      (λ plain. denoted-closed p after left c (phase-own c None phases) ∙ combines-value p k f c (all_workers p) (λ w h. bare p c c f.copies plain (owned c f is).partials w (all_workers-below p w h)) ∙ sym (denoted-open p phases k c f is) ∙ holds c plain)
       (λ d other plain. denoted-same p phases after k left d (phase-other c None phases d other) (closed-others p k f c d other)
       (λ g there w below. closed-others p k f c (copy_at g.copies w) (bare p c d g.copies (owned c f is).plain (owned d g there).partials w below)) ∙ holds d plain)
 
@@ -234,16 +234,13 @@ module _ (p q : Program) (twins : AreTwins p q) (phases : Phases) (owned : AreOw
     meant : with_all p k f (all_workers p) (held_in p k c) ≡ held_in q j c
     meant = sym (denoted-open p phases k c f gift.1) ∙ holds c its.plain
 
-    found_sized : Fills p c (held_in q j c)
-    found_sized = subst (Fills p c) meant (all-sized p k f c (all_workers p) (held_in p k c) (λ w h. copies_sized w (all_workers-below p w h)) (is_sized c))
-
     leaves : denoted p phases new c ≡ held_in q newj c
     leaves =
         denoted-open p phases new c f gift.1
         ∙ ap (with_all p new f (all_workers p)) (rest_kept c (unlike c (copy_at f.copies 0) (bare p c c f.copies its.plain its.partials 0 trust.staffed)))
         ∙ denotes-more p trust n inside a among is_redux_mode f its.partials con.kernel codelet con.contributes copies_sized (held_in p k c) (is_sized c)
         ∙ ap (combined out f.by (added p trust n inside a among is_redux_mode f its.partials con.kernel codelet con.contributes)) meant
-        ∙ sym (result-more p trust n inside a among is_redux_mode f its.partials con.kernel codelet con.contributes (held_in q j c) found_sized)
+        ∙ sym (result-more p trust n inside a among is_redux_mode f its.partials con.kernel codelet con.contributes (held_in q j c) (subst (Fills p c) meant (all-sized p k f c (all_workers p) (held_in p k c) (λ w h. copies_sized w (all_workers-below p w h)) (is_sized c))))
         ∙ ap (λ (g : Kernel). result_of out g (task_of p (task n)).args ins (held_in q j c)) (some_is up.kernel con.kernel (sym up.codelet ∙ codelet))
         ∙ ap (λ (x : Lowered). result_of out con.kernel x.args ins (held_in q j c)) row
         ∙ sym plain_left

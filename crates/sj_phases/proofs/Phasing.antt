@@ -17,7 +17,8 @@ combines f c ws = map (λ w. combine_row f.by c f.line (copy_at f.copies w)) ws
 abbrev pub IsBare : Program → Cell → Cell → Type 0
 IsBare p first c = (w : ℕ) → w < p.workers → same_cell c (copy_at first w) ≡ false
 
-combines-value : (p : Program) (k : Contents) (f : OpenPhase) (c : Cell) (ws : List ℕ) → ((w : ℕ) → Contains ws w → same_cell c (copy_at f.copies w) ≡ false) → held_in p (after_rows p k (combines f c ws)) c ≡ with_all p k f ws (held_in p k c)
+-- the cell holds afterwards what it denoted
+pub combines-value : (p : Program) (k : Contents) (f : OpenPhase) (c : Cell) (ws : List ℕ) → ((w : ℕ) → Contains ws w → same_cell c (copy_at f.copies w) ≡ false) → held_in p (after_rows p k (combines f c ws)) c ≡ with_all p k f ws (held_in p k c)
 combines-value p k f c [] bare = refl
 combines-value p k f c (w ∷ ws) bare =
     let x = combined out f.by (held_in p k (copy_at f.copies w)) (held_in p k c) in
@@ -31,10 +32,7 @@ rows-hold : (p : Program) (Q : Contents → Type 0) (g : ℕ → Lowered) (ws : 
 rows-hold p Q g [] each k h = h
 rows-hold p Q g (w ∷ ws) each k h = rows-hold p Q g ws (λ v e. each v (more-has w ws v e)) (after_row p k (g w)) (each w (first-has w ws) k h)
 
--- the cell holds afterwards what it denoted, and each other cell what it held
-pub closed-value : (p : Program) (k : Contents) (f : OpenPhase) (c : Cell) → IsBare p f.copies c → held_in p (after_rows p k (combine_rows f c p.workers)) c ≡ with_all p k f (all_workers p) (held_in p k c)
-closed-value p k f c bare = combines-value p k f c (all_workers p) (λ w h. bare w (all_workers-below p w h))
-
+-- each other cell holds afterwards what it held
 pub closed-others : (p : Program) (k : Contents) (f : OpenPhase) (c d : Cell) → same_cell c d ≡ false → held_in p (after_rows p k (combine_rows f c p.workers)) d ≡ held_in p k d
 closed-others p k f c d other = rows-hold p (λ n. held_in p n d ≡ held_in p k d) (λ w. combine_row f.by c f.line (copy_at f.copies w)) (all_workers p)
     (λ w h n e. ap (λ (m : Contents). held_in p m d) (after_combine p n f.by c f.line (copy_at f.copies w)) ∙ held-other p c (combined out f.by (held_in p n (copy_at f.copies w)) (held_in p n c)) n d other ∙ e) k refl
