@@ -35,36 +35,33 @@ module _ (p : Program) (n : ℕ) (o : PhaseOpening) (line : Line) (stand : Stand
 
 module _ (p : Program) (n k : ℕ) (phases : Phases) (ls : List Lowered) (o : PhaseOpening) (line : Line) (none : phases o.cell ≡ None) (stand : Stand p n (begin_rows p.workers o line)) (e : k ≡ n + length (begin_rows p.workers o line))
     (own : IsOwn p o.cell o.copies) (apart : AreApart p) (others : (d : Cell) (g : OpenPhase) → phases d ≡ Some g → IsPlain p d) (come : IsToCome ls o.cell) (log : Logged p n phases ls) where
-  abbrev c : Cell
-  c = o.cell
-
   init_is : (d : Cell) (m : ℕ) → task_number p m ≡ init_row o.by line d → IsInit o.by d (task_number p m)
   init_is d m row = record { codelet = ap (λ (x : Lowered). kernel_of x.codelet) row ∙ kernel_of-codelet_of (init_of o.by); operands = ap (λ (x : Lowered). x.accesses) row }
 
   written : (d : Cell) (m : ℕ) (a : Access) → task_number p m ≡ init_row o.by line d → Contains (task_number p m).accesses a → access W d ≡ a
   written d m a row h = one-case (access W d) a (subst (λ (x : Lowered). Contains x.accesses a) row h)
 
-  inner : (m : ℕ) (a : Access) → n ≤ m → m < k → Contains (task_number p m).accesses a → IsInner p c o.copies (m - n) a
+  inner : (m : ℕ) (a : Access) → n ≤ m → m < k → Contains (task_number p m).accesses a → IsInner p o.cell o.copies (m - n) a
   inner m a lo hi h = elim (beginner p n o line stand m lo (omega (arith, hi, e))) [
-    | OfCopy early row ↦ subst (IsInner p c o.copies (m - n)) (written (copy_at o.copies (m - n)) m a row h) (record { direct = refl; there = inl (omega (arith, lo, early), refl) })
-    | OfCell here row ↦ subst (IsInner p c o.copies (m - n)) (written c m a row h) (record { direct = refl; there = inr refl })
+    | OfCopy early row ↦ subst (IsInner p o.cell o.copies (m - n)) (written (copy_at o.copies (m - n)) m a row h) (record { direct = refl; there = inl (omega (arith, lo, early), refl) })
+    | OfCell here row ↦ subst (IsInner p o.cell o.copies (m - n)) (written o.cell m a row h) (record { direct = refl; there = inr refl })
   ]
 
-  fresh_log : IsLogged p k c o.by o.copies n
+  fresh_log : IsLogged p k o.cell o.by o.copies n
   fresh_log = record {
     begun = omega (arith, e, begin-length p n o line stand);
     init = λ w h. init_is (copy_at o.copies w) (n + w) (row-of p (λ v. init_row o.by line (copy_at o.copies v)) n (begin-parts p n o line stand).0 w h);
     alone = λ m a lo hi among touches. elim (beginner p n o line stand m lo (omega (arith, hi, e))) [
       | OfCopy early row ↦ CopyInit early
-      | OfCell here row ↦ CellInit (init_is c m row) (λ j late names. elim (cases_lt m j) [
+      | OfCell here row ↦ CellInit (init_is o.cell m row) (λ j late names. elim (cases_lt m j) [
         | inl later ↦ later
-        | inr past ↦ absurd (false≢true (sym (inner j (access Redux c) (omega (arith, late)) (omega (arith, past, hi)) names).direct))
+        | inr past ↦ absurd (false≢true (sym (inner j (access Redux o.cell) (omega (arith, late)) (omega (arith, past, hi)) names).direct))
       ])
     ];
   }
 
-  pub log-begin : Logged p k (with_phase c (Some (phase_at o line)) phases) ls
+  pub log-begin : Logged p k (with_phase o.cell (Some (phase_at o line)) phases) ls
   log-begin =
-      log-turned p n k phases ls c o.copies own apart others log (omega (arith, e)) inner (Some (phase_at o line)) n log.closed log.each (λ f has. has)
-      (λ f is. (subst (λ (y : OpenPhase). IsLogged p k c y.by y.copies n) (some_is (phase_at o line) f is) fresh_log, inr come))
+      log-turned p n k phases ls o.cell o.copies own apart others log (omega (arith, e)) inner (Some (phase_at o line)) n log.closed log.each (λ f has. has)
+      (λ f is. (subst (λ (y : OpenPhase). IsLogged p k o.cell y.by y.copies n) (some_is (phase_at o line) f is) fresh_log, inr come))
       (λ m f is lt now. absurd (none_isn't f (sym none ∙ is))) (λ m f is lt now names. absurd (none_isn't f (sym none ∙ is))) (λ m lo hi early. InOpen (phase_at o line) refl (lo, early))

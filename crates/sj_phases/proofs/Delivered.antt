@@ -95,17 +95,14 @@ delivered-prepared w b E h = fold_keeps (λ (F : Expansion). IsDelivered F.tasks
     (fold_keeps (λ (F : Expansion). IsDelivered F.tasks F.deliveries) (closed w) (λ F c k. by_closed w F c (λ (G : Expansion). IsDelivered G.tasks G.deliveries) (λ none. k) (λ f is. delivered-more F.tasks (combine_rows f c w) F.deliveries
     (All-map IsOther (λ v. combine_row f.by c f.line (copy_at f.copies v)) (range_with_len 0 w) (λ i d lt. none-combine f.by c f.line (copy_at f.copies (get_or (range_with_len 0 w) i d)))) k)) E b.closes h)
 
--- without phases
-delivered-direct : (ts : List Lowered) (ds : List Delivery) → IsDelivered ts ds → IsDelivered (map direct ts) ds
-delivered-direct ts ds = delivered-like ts (map direct ts) ds (omega (arith, length-map ts direct)) (λ n lt. ap (λ (l : Lowered). kernel_of l.codelet) (get_or-map direct ts n no_task no_task lt)) (λ n past lt. absurd (omega (arith, past, lt, length-map ts direct)))
-
 -- what each block keeps, with phases and without
 pub delivered-block : (p : Program) (w : ℕ) (b : TaskBlock) (E : Expansion) (Q : Plainly) (was : OpenReductions) → IsOrderly p was b → IsDelivered E.tasks E.deliveries × IsDelivered Q.tasks Q.deliveries
     → IsDelivered (expanded w E b).tasks (expanded w E b).deliveries × IsDelivered (plain_next Q b).tasks (plain_next Q b).deliveries
 delivered-block p w b E Q was orderly h = (
   delivered-own (prepared w E b).tasks b.tasks (prepared w E b).deliveries b.deliveries orderly.delivered (delivered-prepared w b E h.0),
   subst (λ (ts : List Lowered). IsDelivered ts (Q.deliveries ++ map (moved (length (Q.tasks ++ units b))) b.deliveries)) (append_assoc Q.tasks (units b) (map direct b.tasks))
-  (delivered-own (Q.tasks ++ units b) (map direct b.tasks) Q.deliveries b.deliveries (delivered-direct b.tasks b.deliveries orderly.delivered) (delivered-more Q.tasks (units b) Q.deliveries (none-all b.opens b.line) h.1)),
+  (delivered-own (Q.tasks ++ units b) (map direct b.tasks) Q.deliveries b.deliveries (delivered-like b.tasks (map direct b.tasks) b.deliveries (omega (arith, length-map b.tasks direct))
+  (λ n lt. ap (λ (l : Lowered). kernel_of l.codelet) (get_or-map direct b.tasks n no_task no_task lt)) (λ n past lt. absurd (omega (arith, past, lt, length-map b.tasks direct))) orderly.delivered) (delivered-more Q.tasks (units b) Q.deliveries (none-all b.opens b.line) h.1)),
 )
 
 pub delivered-none : IsDelivered [] []

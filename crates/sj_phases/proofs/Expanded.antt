@@ -96,21 +96,13 @@ module _ (rows : List CellInfo) (workers : ℕ) (bs : List TaskBlock) (can : May
         cell_of : (r : Program) (i : ℕ) (c : Cell) → (task_of r (task i)).accesses ≡ access R c ∷ [] → get_or (cells_of r (task i) first_worker) 0 (record { 0 = 0 }) ≡ c
         cell_of r i c accesses = ap (λ (xs : List Access). get_or (map (worked_on r first_worker) (filter (λ b. is_data b.mode) xs)) 0 (record { 0 = 0 })) accesses
 
-    module _ (x : TaskBlock) (F : Expansion) (Q : Plainly) (was : OpenReductions) (h : IsOrderly p was x) (b : Begins p.tasks (expanded p.workers F x).tasks) (d : Begins q.tasks (Q.tasks ++ plain_rows x)) (fine_before : Fine p q F.tasks F.phase Q.tasks [] was) (same : map (handed_over p) F.deliveries ≡ map (handed_over q) Q.deliveries) where
-      abbrev Ready : Expansion
-      Ready = prepared p.workers F x
-
-      abbrev us : List Lowered
-      us = Q.tasks ++ units x
-
-      abbrev n : ℕ
-      n = length Ready.tasks
-
-      abbrev m : ℕ
-      m = length us
-
-      one : (e : Delivery) → Contains x.deliveries e → handed_over p (moved n e) ≡ handed_over q (moved m e)
-      one e has' =
+    one : (x : TaskBlock) (F : Expansion) (Q : Plainly) (was : OpenReductions) → IsOrderly p was x → Begins p.tasks (expanded p.workers F x).tasks → Begins q.tasks (Q.tasks ++ plain_rows x) → Fine p q F.tasks F.phase Q.tasks [] was
+        → (e : Delivery) → Contains x.deliveries e → handed_over p (moved (length (prepared p.workers F x).tasks) e) ≡ handed_over q (moved (length (Q.tasks ++ units x)) e)
+    one x F Q was h b d fine_before e has' =
+          let Ready = prepared p.workers F x in
+          let us = Q.tasks ++ units x in
+          let n = length Ready.tasks in
+          let m = length us in
           let i = e.task.0 in
           let lt = All-contains (λ (z : Delivery). z.task.0 < length x.tasks) x.deliveries e h.delivered.below has' in
           let deliver = All-contains (λ (z : Delivery). kernel_of (get_or x.tasks z.task.0 no_task).codelet ≡ Some Deliver) x.deliveries e h.delivered.deliver has' in
@@ -132,7 +124,7 @@ module _ (rows : List CellInfo) (workers : ℕ) (bs : List TaskBlock) (can : May
       handed = (begun-blocks p q (λ F Q o. Fine p q F.tasks F.phase Q.tasks [] o × (map (handed_over p) F.deliveries ≡ map (handed_over q) Q.deliveries))
           (λ x F Q o h b d before.
           (let n = length (prepared p.workers F x).tasks in let m = length (Q.tasks ++ units x) in
-          let own = map-map (handed_over p) (moved n) x.deliveries ∙ map-same (λ e. handed_over p (moved n e)) (λ e. handed_over q (moved m e)) x.deliveries (one x F Q o h b d before.0 before.1) ∙ sym (map-map (handed_over q) (moved m) x.deliveries) in
+          let own = map-map (handed_over p) (moved n) x.deliveries ∙ map-same (λ e. handed_over p (moved n e)) (λ e. handed_over q (moved m e)) x.deliveries (one x F Q o h b d before.0) ∙ sym (map-map (handed_over q) (moved m) x.deliveries) in
           (fine-block p q twins can.proper F Q.tasks o x h b d before.0, map-append (handed_over p) (prepared p.workers F x).deliveries (map (moved n) x.deliveries)
           ∙ (λ i. (ap (map (handed_over p)) (prepared-deliveries p.workers F x) ∙ before.1) i ++ own i) ∙ sym (map-append (handed_over q) Q.deliveries (map (moved m) x.deliveries)))))
           bs nothing start none_open orderly ([], sym (append-nil p.tasks)) ([], sym (append-nil q.tasks)) (fine-start p q twins can.proper, refl)).1;

@@ -102,9 +102,6 @@ direct-same a h = ap (λ b. let m = cond b RW a.mode in let x : Access = record 
 direct-read : (m : Mode) → direct_mode m ≡ R → m ≡ R
 direct-read m = cond_both (is_redux m) RW m (λ x. x ≡ R → m ≡ R) (λ e h. absurd (cc)) (λ e h. h)
 
-direct-reads : (m : Mode) → reads_value m ≡ true → reads_value (direct_mode m) ≡ true
-direct-reads m h = cond_both (is_redux m) RW m (λ x. reads_value x ≡ true) (λ e. refl) (λ e. h)
-
 direct-data : (m : Mode) → not (is_scratch (direct_mode m)) ≡ not (is_scratch m)
 direct-data m = cond_both (is_redux m) RW m (λ x. not (is_scratch x) ≡ not (is_scratch m)) (λ e. ap (λ x. not (is_scratch x)) (sym (redux-is m e))) (λ e. refl)
 
@@ -128,9 +125,8 @@ pub filter-direct : (xs : List Access) → filter (λ a. not (is_scratch a.mode)
 filter-direct [] = refl
 filter-direct (x ∷ xs) =
     let rest = filter (λ (a : Access). not (is_scratch a.mode)) xs in
-    let test = not (is_scratch x.mode) in
-    (λ i. cond (direct-data x.mode i) (direct_access x ∷ filter-direct xs i) (filter-direct xs i)) ∙ cond_both {A = List Access} test (x ∷ rest) rest (λ ys. cond test (direct_access x ∷ map direct_access rest) (map direct_access rest) ≡ map direct_access ys)
-    (λ e i. cond (e i) (direct_access x ∷ map direct_access rest) (map direct_access rest)) (λ e i. cond (e i) (direct_access x ∷ map direct_access rest) (map direct_access rest))
+    (λ i. cond (direct-data x.mode i) (direct_access x ∷ filter-direct xs i) (filter-direct xs i))
+    ∙ elim (not (is_scratch x.mode)) as (λ b. cond b (direct_access x ∷ map direct_access rest) (map direct_access rest) ≡ map direct_access (cond b (x ∷ rest) rest)) [ true ↦ refl | false ↦ refl ]
 
 -- a cell with a value after one task more has it before that task, or by it
 values-row : (p q : Program) (n m : ℕ) (c : Cell) → ((c : Cell) → HasValueBefore q (task m) c → HasValueBefore p (task n) c) → (gives_value (task_of q (task m)) c ≡ true → HasValueBefore p (task (n + 1)) c) → HasValueBefore q (task (m + 1)) c → HasValueBefore p (task (n + 1)) c
@@ -152,21 +148,18 @@ module _ (p q : Program) (twins : AreTwins p q) (proper : Proper q) (m : ℕ) (i
   good_own n opens values contributes copies plain = record {
     cells = All-unmap (λ (a : Access). a.cell.0 < length p.cells) direct_access l.accesses (subst₂ (λ (x : Lowered) (is : List CellInfo). All (λ (a : Access). a.cell.0 < length is) x.accesses) row (sym twins.cells)
         (All-get_or (λ (x : Lowered). All (λ (a : Access). a.cell.0 < length q.cells) x.accesses) q.tasks m no_task inside proper.cells.named));
-    fits = record { kernel = fit.kernel; codelet = fit.codelet; operands = ap (fits fit.kernel l.args) (sym same_dims) ∙ fit.operands; modes = its_modes (list_any (λ (a : Access). is_redux a.mode) l.accesses) refl };
+    fits = record { kernel = fit.kernel; codelet = fit.codelet; operands = ap (fits fit.kernel l.args) (sym (map-map (λ (a : Access). dims_of q a.cell) direct_access l.accesses ∙ map-same (λ (a : Access). dims_of q a.cell) (λ (a : Access). dims_of p a.cell) l.accesses (λ a h. sym (twin-dims p q twins a.cell)))) ∙ fit.operands; modes = its_modes (list_any (λ (a : Access). is_redux a.mode) l.accesses) refl };
     unaliased = λ i j d before within same.
         let both = subst₂ ReadOnly (get_or-map direct_access (data_operands l) i d (direct_access d) (omega (arith, before, within))) (get_or-map direct_access (data_operands l) j d (direct_access d) within)
-        (q_pairs i j (direct_access d) before (omega (arith, within, length-map (data_operands l) direct_access))) same in
+        (subst (AllPairs ReadOnly) (filter-direct l.accesses) (subst (λ (x : Lowered). IsUnaliased x) row (All-get_or IsUnaliased q.tasks m no_task inside proper.unaliased)) i j (direct_access d) before (omega (arith, within, length-map (data_operands l) direct_access))) same in
         (direct-read (get_or (data_operands l) i d).mode both.0, direct-read (get_or (data_operands l) j d).mode both.1);
-    values = all-from (λ (a : Access). reads_value a.mode ≡ true → HasValueBefore p (task n) a.cell) l.accesses (λ a h reads. values a.cell (plain-value a h (direct-reads a.mode reads)));
+    values = all-from (λ (a : Access). reads_value a.mode ≡ true → HasValueBefore p (task n) a.cell) l.accesses (λ a h reads. values a.cell (plain-value a h (cond_both (is_redux a.mode) RW a.mode (λ x. reads_value x ≡ true) (λ e. refl) (λ e. reads))));
     copies = copies;
     plain = λ e. plain;
   }
     where
       fit : FitsCodelet q (direct l)
       fit = subst (FitsCodelet q) row (All-get_or (FitsCodelet q) q.tasks m no_task inside proper.codelets)
-
-      same_dims : map (λ (a : Access). dims_of q a.cell) (map direct_access l.accesses) ≡ map (λ (a : Access). dims_of p a.cell) l.accesses
-      same_dims = map-map (λ (a : Access). dims_of q a.cell) direct_access l.accesses ∙ map-same (λ (a : Access). dims_of q a.cell) (λ (a : Access). dims_of p a.cell) l.accesses (λ a h. sym (twin-dims p q twins a.cell))
 
       its_modes : (b : Bool) → list_any (λ (a : Access). is_redux a.mode) l.accesses ≡ b → MayHaveModes fit.kernel (map (λ (a : Access). a.mode) l.accesses)
       its_modes false none = subst (λ (x : Lowered). MayHaveModes fit.kernel (map (λ (a : Access). a.mode) x.accesses)) (direct-itself l none) fit.modes
@@ -175,9 +168,6 @@ module _ (p q : Program) (twins : AreTwins p q) (proper : Proper q) (m : ℕ) (i
           let con = contributes found.0 found.1 found.2 in
           let one = some_is con.contribution.kernel fit.kernel (sym con.contribution.codelet ∙ fit.codelet) in
           MayHaveModes.Contributing con.by (ap (λ (k : Kernel). contributes_of k con.by) (sym one) ∙ con.contribution.contributes) (subst (λ (k : Kernel). writes_one k) one con.one) (con.modes ∙ ap (modes_writing_by Redux) one)
-
-      q_pairs : AllPairs ReadOnly (map direct_access (data_operands l))
-      q_pairs = subst (AllPairs ReadOnly) (filter-direct l.accesses) (subst (λ (x : Lowered). IsUnaliased x) row (All-get_or IsUnaliased q.tasks m no_task inside proper.unaliased))
 
   -- what has a value after it has one in the program with phases
   pub values-own : (n : ℕ) → task_of p (task n) ≡ l → ((c : Cell) → HasValueBefore q (task m) c → HasValueBefore p (task n) c) → (c : Cell) → HasValueBefore q (task (m + 1)) c → HasValueBefore p (task (n + 1)) c

@@ -120,19 +120,15 @@ module _ (p q : Program) (twins : AreTwins p q) (phases : Phases) (owned : AreOw
     abbrev xs : List Array
     xs = out l.codelet l.args (map (found p first_worker (held_in p k)) l.accesses)
 
-    left_plain : newj ≡ zip cs xs ++ j
-    left_plain =
-        ap (after_row q j) (plain_row ∙ direct-itself l none)
-        ∙ ap (λ (ds : List Cell). zip ds (out l.codelet l.args (map (found q first_worker (held_in q j)) l.accesses)) ++ j) (map-same (worked_on q first_worker) (worked_on p first_worker) (filter (λ a. is_written a.mode) l.accesses) (λ a h.
-        (let direct = none-redux l none a (Contains-from_filter (λ (b : Access). is_written b.mode) l.accesses a h) in direct-cell q first_worker a direct ∙ sym (direct-cell p first_worker a direct))))
-        ∙ ap (λ (ys : List Array). zip cs (out l.codelet l.args ys) ++ j) (map-same (found q first_worker (held_in q j)) (found p first_worker (held_in p k)) l.accesses (λ a h. found-alike a h (none-redux l none a h)))
-
     -- what a cell holds afterwards, by what it held
     over : (d : Cell) → held_in p new d ≡ held_over (zip cs xs) d (held_in p k d)
     over d = ap (λ (z : Contents). held_in p z d) (ap (after_row p k) row) ∙ held-append p (zip cs xs) k d
 
     over_plain : (d : Cell) → held_in q newj d ≡ held_over (zip cs xs) d (held_in q j d)
-    over_plain d = ap (λ (z : Contents). held_in q z d) left_plain ∙ held-append q (zip cs xs) j d
+    over_plain d = ap (λ (z : Contents). held_in q z d) (ap (after_row q j) (plain_row ∙ direct-itself l none)
+        ∙ ap (λ (ds : List Cell). zip ds (out l.codelet l.args (map (found q first_worker (held_in q j)) l.accesses)) ++ j) (map-same (worked_on q first_worker) (worked_on p first_worker) (filter (λ a. is_written a.mode) l.accesses) (λ a h.
+        (let direct = none-redux l none a (Contains-from_filter (λ (b : Access). is_written b.mode) l.accesses a h) in direct-cell q first_worker a direct ∙ sym (direct-cell p first_worker a direct))))
+        ∙ ap (λ (ys : List Array). zip cs (out l.codelet l.args ys) ++ j) (map-same (found q first_worker (held_in q j)) (found p first_worker (held_in p k)) l.accesses (λ a h. found-alike a h (none-redux l none a h)))) ∙ held-append q (zip cs xs) j d
 
     -- a cell that it writes is none of an open phase
     unwritten : (d : Cell) → ((a : Access) → Contains l.accesses a → Contains (data_operands l) a → a.cell ≢ d) → has_cell cs d ≡ false
@@ -234,8 +230,8 @@ module _ (p q : Program) (twins : AreTwins p q) (phases : Phases) (owned : AreOw
     meant : with_all p k f (all_workers p) (held_in p k c) ≡ held_in q j c
     meant = sym (denoted-open p phases k c f gift.1) ∙ holds c its.plain
 
-    leaves : denoted p phases new c ≡ held_in q newj c
-    leaves =
+    pub holds-gift : Holds p q phases new newj
+    holds-gift = each_cell c (λ d. IsPlain p d → denoted p phases new d ≡ held_in q newj d) (λ plain.
         denoted-open p phases new c f gift.1
         ∙ ap (with_all p new f (all_workers p)) (rest_kept c (unlike c (copy_at f.copies 0) (bare p c c f.copies its.plain its.partials 0 trust.staffed)))
         ∙ denotes-more p trust n inside a among is_redux_mode f its.partials con.kernel codelet con.contributes copies_sized (held_in p k c) (is_sized c)
@@ -243,10 +239,7 @@ module _ (p q : Program) (twins : AreTwins p q) (phases : Phases) (owned : AreOw
         ∙ sym (result-more p trust n inside a among is_redux_mode f its.partials con.kernel codelet con.contributes (held_in q j c) (subst (Fills p c) meant (all-sized p k f c (all_workers p) (held_in p k c) (λ w h. copies_sized w (all_workers-below p w h)) (is_sized c))))
         ∙ ap (λ (g : Kernel). result_of out g (task_of p (task n)).args ins (held_in q j c)) (some_is up.kernel con.kernel (sym up.codelet ∙ codelet))
         ∙ ap (λ (x : Lowered). result_of out con.kernel x.args ins (held_in q j c)) row
-        ∙ sym plain_left
-
-    pub holds-gift : Holds p q phases new newj
-    holds-gift = each_cell c (λ d. IsPlain p d → denoted p phases new d ≡ held_in q newj d) (λ plain. leaves)
+        ∙ sym plain_left)
         (λ d other plain. denoted-same p phases phases k new d refl (rest_kept d (unlike d (copy_at f.copies 0) (bare p d c f.copies plain its.partials 0 trust.staffed)))
         (λ g there w below. rest_kept (copy_at g.copies w) (λ e. copies-apart p apart c d f.copies g.copies 0 w other its.partials (owned d g there).partials trust.staffed below (sym e)))
         ∙ holds d plain ∙ sym (after_task-other out q first_worker (task m) j d (ap (λ (ds : List Cell). has_cell ds d) plain_written ∙ ap (λ b. b || false) other)))
