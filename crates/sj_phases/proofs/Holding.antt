@@ -85,6 +85,11 @@ module _ (p q : Program) (twins : AreTwins p q) (phases : Phases) (owned : AreOw
       (λ v lt. false_from_ne_true (same_cell (copy_at o.copies v) (copy_at g.copies w)) (λ h. copies-apart p apart o.cell d o.copies g.copies v w other own.partials (owned d g there).partials lt below (same_cell-is (copy_at o.copies v) (copy_at g.copies w) h))))
       ∙ holds d plain ∙ sym (units-others q j o line d other))
 
+-- one array put into a cell over what it holds
+by_one : (c : Cell) (ys : List Array) → length ys ≡ 1 → (below : Array) → held_over (zip (c ∷ []) ys) c below ≡ operand ys 0
+by_one c [] e below = absurd (omega (arith, e))
+by_one c (y ∷ ys) e below = ap (λ b. elim (cond b (Some (c, y)) (find (λ (entry : Cell × Array). same_cell entry.0 c) (zip [] ys))) as (λ _. Array) [ None ↦ below | Some entry ↦ entry.1 ]) (same_cell-refl c)
+
 -- ---- a block's own task
 
 module _ (p q : Program) (twins : AreTwins p q) (phases : Phases) (owned : AreOwned p phases) (apart : AreApart p) (n m : ℕ) (holds : Holds p q phases (contents_before p n) (contents_before q m)) (l : Lowered)
@@ -148,90 +153,41 @@ module _ (p q : Program) (twins : AreTwins p q) (phases : Phases) (owned : AreOw
   -- ---- one that contributes
 
   module _ (trust : IsTrusted p) (inside : n < length p.tasks) (fit : FitsCodelet q (task_of q (task m))) (a : Access) (here : Contains l.accesses a) (mode : is_redux a.mode ≡ true) where
-    abbrev c : Cell
-    c = a.cell
-
-    is_redux_mode : a.mode ≡ Redux
-    is_redux_mode = ap (λ (b : Access). b.mode) (redux-access a mode)
-
-    gift : (f : OpenPhase) × (phases c ≡ Some f) × IsContribution f.by c l
-    gift = own.gives c (subst (λ (b : Access). Contains l.accesses b) (redux-access a mode) here)
-
-    abbrev f : OpenPhase
-    f = gift.0
-
-    abbrev con : IsContribution f.by c l
-    con = gift.2
-
-    its : IsOwn p c f.copies
-    its = owned c f gift.1
-
-    among : Contains (task_of p (task n)).accesses a
-    among = subst (λ (x : Lowered). Contains x.accesses a) (sym row) here
-
-    codelet : kernel_of (task_of p (task n)).codelet ≡ Some con.kernel
-    codelet = ap (λ (x : Lowered). kernel_of x.codelet) row ∙ con.codelet
-
-    abbrev up : Updates p (task n) first_worker (worked_on p first_worker a)
-    up = updates p trust n inside a among is_redux_mode f its.partials con.kernel codelet con.contributes
-
-    abbrev ins : List Array
-    ins = first_ins p (task n) first_worker (worked_on p first_worker a) up (held_in p k)
-
-    -- the operands before the last one, which contributes, are only read, and found alike
-    ends : l.accesses ≡ up.before ++ a ∷ []
-    ends =
-        ap (λ (x : Lowered). x.accesses) (sym row) ∙ up.accesses
-        ∙ ap (λ (b : Access). up.before ++ b ∷ []) (last-is p trust.proper (task n) inside a among (ap is_in_order is_redux_mode))
-
-    plain_accesses : (task_of q (task m)).accesses ≡ up.before ++ access RW c ∷ []
-    plain_accesses =
-        ap (λ (x : Lowered). x.accesses) plain_row ∙ ap (map direct_access) ends ∙ map-append direct_access up.before (a ∷ [])
-        ∙ ap (λ (bs : List Access). bs ++ direct_access a ∷ []) (map-itself direct_access up.before (λ b h. direct-same b (up.direct b h)))
-        ∙ ap (λ x. let y = cond x RW a.mode in let b : Access = record { mode = y; cell = c } in up.before ++ b ∷ []) mode
-
-    plain_written : written_cells q (task m) first_worker ≡ c ∷ []
-    plain_written =
-        ap (λ (bs : List Access). map (worked_on q first_worker) (filter (λ b. is_written b.mode) bs)) plain_accesses
-        ∙ ap (map (worked_on q first_worker)) (filter-last (λ b. is_written b.mode) up.before (access RW c) (λ b h. elim (first-is p trust.proper (task n) inside a among (ap is_in_order is_redux_mode) b h) [ inl e ↦ ap is_written e | inr e ↦ ap is_written e ]) refl)
-
-    plain_found : map (found q first_worker (held_in q j)) (task_of q (task m)).accesses ≡ ins ++ held_in q j c ∷ []
-    plain_found =
-        ap (map (found q first_worker (held_in q j))) plain_accesses ∙ map-append (found q first_worker (held_in q j)) up.before (access RW c ∷ [])
-        ∙ ap (λ (ys : List Array). ys ++ held_in q j c ∷ []) (map-same (found q first_worker (held_in q j)) (found p first_worker (held_in p k)) up.before
-        (λ b h. found-alike b (subst (λ (bs : List Access). Contains bs b) (sym ends) (Contains-append_left up.before (a ∷ []) b h)) (up.direct b h)))
-
-    plain_left : held_in q newj c ≡ result_of out con.kernel l.args ins (held_in q j c)
-    plain_left =
-        held-append q (zip (written_cells q (task m) first_worker) (results out q (task m) first_worker (held_in q j))) j c
-        ∙ ap (λ (ds : List Cell). held_over (zip ds (results out q (task m) first_worker (held_in q j))) c (held_in q j c)) plain_written
-        ∙ first (results out q (task m) first_worker (held_in q j)) (results-complete out q (task m) first_worker (held_in q j) fit (out-makes_tiles fit.kernel) ∙ ap length plain_written) (held_in q j c)
-        ∙ (λ i. operand (out (plain_row i).codelet (plain_row i).args (plain_found i)) 0)
-        ∙ ap (λ (id : Codelet). operand (out id l.args (ins ++ held_in q j c ∷ [])) 0) (codelet_of-kernel l.codelet con.kernel con.codelet)
-      where
-        first : (ys : List Array) → length ys ≡ 1 → (below : Array) → held_over (zip (c ∷ []) ys) c below ≡ operand ys 0
-        first [] e below = absurd (omega (arith, e))
-        first (y ∷ ys) e below = ap (λ b. elim (cond b (Some (c, y)) (find (λ (entry : Cell × Array). same_cell entry.0 c) (zip [] ys))) as (λ _. Array) [ None ↦ below | Some entry ↦ entry.1 ]) (same_cell-refl c)
-
-    -- ---- the partial copy
-
-    rest_kept : (d : Cell) → d ≢ copy_at f.copies 0 → held_in p new d ≡ held_in p k d
-    rest_kept = others-kept p trust n inside a among is_redux_mode f its.partials con.kernel codelet con.contributes
-
-    is_sized : AreSized p k
-    is_sized = sized p trust n inside a among is_redux_mode f its.partials con.kernel codelet con.contributes
-
-    copies_sized : SizedCopies p k f c
-    copies_sized w below =
-        let x = copy_at f.copies w in
-        let same = (trust.proper.cells.copies x c (record { 0 = w }) (is-copy p c f.copies (record { 0 = w }) its.partials below)).1 in
-        record { tile = (is_sized x).tile; dims = (is_sized x).dims ∙ same }
-
-    meant : with_all p k f (all_workers p) (held_in p k c) ≡ held_in q j c
-    meant = sym (denoted-open p phases k c f gift.1) ∙ holds c its.plain
-
     pub holds-gift : Holds p q phases new newj
-    holds-gift = each_cell c (λ d. IsPlain p d → denoted p phases new d ≡ held_in q newj d) (λ plain.
+    holds-gift =
+        let c : Cell = a.cell in
+        let is_redux_mode : a.mode ≡ Redux = ap (λ (b : Access). b.mode) (redux-access a mode) in
+        let gift : (f : OpenPhase) × (phases c ≡ Some f) × IsContribution f.by c l = own.gives c (subst (λ (b : Access). Contains l.accesses b) (redux-access a mode) here) in
+        let f : OpenPhase = gift.0 in
+        let con : IsContribution f.by c l = gift.2 in
+        let its : IsOwn p c f.copies = owned c f gift.1 in
+        let among : Contains (task_of p (task n)).accesses a = subst (λ (x : Lowered). Contains x.accesses a) (sym row) here in
+        let codelet : kernel_of (task_of p (task n)).codelet ≡ Some con.kernel = ap (λ (x : Lowered). kernel_of x.codelet) row ∙ con.codelet in
+        let up : Updates p (task n) first_worker (worked_on p first_worker a) = updates p trust n inside a among is_redux_mode f its.partials con.kernel codelet con.contributes in
+        let ins : List Array = first_ins p (task n) first_worker (worked_on p first_worker a) up (held_in p k) in
+        -- the operands before the last one, which contributes, are only read, and found alike
+        let ends : l.accesses ≡ up.before ++ a ∷ [] = ap (λ (x : Lowered). x.accesses) (sym row) ∙ up.accesses
+        ∙ ap (λ (b : Access). up.before ++ b ∷ []) (last-is p trust.proper (task n) inside a among (ap is_in_order is_redux_mode)) in
+        let plain_accesses : (task_of q (task m)).accesses ≡ up.before ++ access RW c ∷ [] = ap (λ (x : Lowered). x.accesses) plain_row ∙ ap (map direct_access) ends ∙ map-append direct_access up.before (a ∷ [])
+        ∙ ap (λ (bs : List Access). bs ++ direct_access a ∷ []) (map-itself direct_access up.before (λ b h. direct-same b (up.direct b h)))
+        ∙ ap (λ x. let y = cond x RW a.mode in let b : Access = record { mode = y; cell = c } in up.before ++ b ∷ []) mode in
+        let plain_written : written_cells q (task m) first_worker ≡ c ∷ [] = ap (λ (bs : List Access). map (worked_on q first_worker) (filter (λ b. is_written b.mode) bs)) plain_accesses
+        ∙ ap (map (worked_on q first_worker)) (filter-last (λ b. is_written b.mode) up.before (access RW c) (λ b h. elim (first-is p trust.proper (task n) inside a among (ap is_in_order is_redux_mode) b h) [ inl e ↦ ap is_written e | inr e ↦ ap is_written e ]) refl) in
+        let plain_found : map (found q first_worker (held_in q j)) (task_of q (task m)).accesses ≡ ins ++ held_in q j c ∷ [] = ap (map (found q first_worker (held_in q j))) plain_accesses ∙ map-append (found q first_worker (held_in q j)) up.before (access RW c ∷ [])
+        ∙ ap (λ (ys : List Array). ys ++ held_in q j c ∷ []) (map-same (found q first_worker (held_in q j)) (found p first_worker (held_in p k)) up.before
+        (λ b h. found-alike b (subst (λ (bs : List Access). Contains bs b) (sym ends) (Contains-append_left up.before (a ∷ []) b h)) (up.direct b h))) in
+        let plain_left : held_in q newj c ≡ result_of out con.kernel l.args ins (held_in q j c) = held-append q (zip (written_cells q (task m) first_worker) (results out q (task m) first_worker (held_in q j))) j c
+        ∙ ap (λ (ds : List Cell). held_over (zip ds (results out q (task m) first_worker (held_in q j))) c (held_in q j c)) plain_written
+        ∙ by_one c (results out q (task m) first_worker (held_in q j)) (results-complete out q (task m) first_worker (held_in q j) fit (out-makes_tiles fit.kernel) ∙ ap length plain_written) (held_in q j c)
+        ∙ (λ i. operand (out (plain_row i).codelet (plain_row i).args (plain_found i)) 0)
+        ∙ ap (λ (id : Codelet). operand (out id l.args (ins ++ held_in q j c ∷ [])) 0) (codelet_of-kernel l.codelet con.kernel con.codelet) in
+        let rest_kept : (d : Cell) → d ≢ copy_at f.copies 0 → held_in p new d ≡ held_in p k d = others-kept p trust n inside a among is_redux_mode f its.partials con.kernel codelet con.contributes in
+        let is_sized : AreSized p k = sized p trust n inside a among is_redux_mode f its.partials con.kernel codelet con.contributes in
+        let copies_sized : SizedCopies p k f c = λ w below. (let x = copy_at f.copies w in
+        let same = (trust.proper.cells.copies x c (record { 0 = w }) (is-copy p c f.copies (record { 0 = w }) its.partials below)).1 in
+        record { tile = (is_sized x).tile; dims = (is_sized x).dims ∙ same }) in
+        let meant : with_all p k f (all_workers p) (held_in p k c) ≡ held_in q j c = sym (denoted-open p phases k c f gift.1) ∙ holds c its.plain in
+        each_cell c (λ d. IsPlain p d → denoted p phases new d ≡ held_in q newj d) (λ plain.
         denoted-open p phases new c f gift.1
         ∙ ap (with_all p new f (all_workers p)) (rest_kept c (unlike c (copy_at f.copies 0) (bare p c c f.copies its.plain its.partials 0 trust.staffed)))
         ∙ denotes-more p trust n inside a among is_redux_mode f its.partials con.kernel codelet con.contributes copies_sized (held_in p k c) (is_sized c)
