@@ -155,16 +155,16 @@ module _ (p q : Program) (twins : AreTwins p q) (phases : Phases) (owned : AreOw
   module _ (trust : IsTrusted p) (inside : n < length p.tasks) (fit : FitsCodelet q (task_of q (task m))) (a : Access) (here : Contains l.accesses a) (mode : is_redux a.mode ≡ true) where
     pub holds-gift : Holds p q phases new newj
     holds-gift =
-        let c : Cell = a.cell in
-        let is_redux_mode : a.mode ≡ Redux = ap (λ (b : Access). b.mode) (redux-access a mode) in
-        let gift : (f : OpenPhase) × (phases c ≡ Some f) × IsContribution f.by c l = own.gives c (subst (λ (b : Access). Contains l.accesses b) (redux-access a mode) here) in
-        let f : OpenPhase = gift.0 in
-        let con : IsContribution f.by c l = gift.2 in
-        let its : IsOwn p c f.copies = owned c f gift.1 in
-        let among : Contains (task_of p (task n)).accesses a = subst (λ (x : Lowered). Contains x.accesses a) (sym row) here in
+        let c = a.cell in
+        let is_redux_mode = ap (λ (b : Access). b.mode) (redux-access a mode) in
+        let gift = own.gives c (subst (λ (b : Access). Contains l.accesses b) (redux-access a mode) here) in
+        let f = gift.0 in
+        let con = gift.2 in
+        let its = owned c f gift.1 in
+        let among = subst (λ (x : Lowered). Contains x.accesses a) (sym row) here in
         let codelet : kernel_of (task_of p (task n)).codelet ≡ Some con.kernel = ap (λ (x : Lowered). kernel_of x.codelet) row ∙ con.codelet in
-        let up : Updates p (task n) first_worker (worked_on p first_worker a) = updates p trust n inside a among is_redux_mode f its.partials con.kernel codelet con.contributes in
-        let ins : List Array = first_ins p (task n) first_worker (worked_on p first_worker a) up (held_in p k) in
+        let up = updates p trust n inside a among is_redux_mode f its.partials con.kernel codelet con.contributes in
+        let ins = first_ins p (task n) first_worker (worked_on p first_worker a) up (held_in p k) in
         -- the operands before the last one, which contributes, are only read, and found alike
         let ends : l.accesses ≡ up.before ++ a ∷ [] = ap (λ (x : Lowered). x.accesses) (sym row) ∙ up.accesses
         ∙ ap (λ (b : Access). up.before ++ b ∷ []) (last-is p trust.proper (task n) inside a among (ap is_in_order is_redux_mode)) in
@@ -181,8 +181,8 @@ module _ (p q : Program) (twins : AreTwins p q) (phases : Phases) (owned : AreOw
         ∙ by_one c (results out q (task m) first_worker (held_in q j)) (results-complete out q (task m) first_worker (held_in q j) fit (out-makes_tiles fit.kernel) ∙ ap length plain_written) (held_in q j c)
         ∙ (λ i. operand (out (plain_row i).codelet (plain_row i).args (plain_found i)) 0)
         ∙ ap (λ (id : Codelet). operand (out id l.args (ins ++ held_in q j c ∷ [])) 0) (codelet_of-kernel l.codelet con.kernel con.codelet) in
-        let rest_kept : (d : Cell) → d ≢ copy_at f.copies 0 → held_in p new d ≡ held_in p k d = others-kept p trust n inside a among is_redux_mode f its.partials con.kernel codelet con.contributes in
-        let is_sized : AreSized p k = sized p trust n inside a among is_redux_mode f its.partials con.kernel codelet con.contributes in
+        let rest_kept = others-kept p trust n inside a among is_redux_mode f its.partials con.kernel codelet con.contributes in
+        let is_sized = sized p trust n inside a among is_redux_mode f its.partials con.kernel codelet con.contributes in
         let copies_sized : SizedCopies p k f c = λ w below. (let x = copy_at f.copies w in
         let same = (trust.proper.cells.copies x c (record { 0 = w }) (is-copy p c f.copies (record { 0 = w }) its.partials below)).1 in
         record { tile = (is_sized x).tile; dims = (is_sized x).dims ∙ same }) in
