@@ -1,5 +1,5 @@
 -- The paste tasks of a plan line make in the new plan's cells what pastes make of the old plan's children.
-use Rattle.sj_lower.proofs.Words.{[], access, all_copied, AllByRecursion, ap, area, Array, BeginOnce, begins, Bool, Cell, child, cond, Contents, copied, Copy, Dims, dims_of, false, Fits, flat_map, gives_value, held_in, is_first, IsPasteBetween, IsPlace, Line, List, Lowered, map, overlaps, own_task, Parts, Paste, paste_arguments, paste_at, paste_copy, paste_row, pasted, PasteKernel, pastes_of, pastes_to, pieces, places, pos, Program, R, rect_dims, refl, RW, same_cell, subst, sym, true, W, window, zeros, ℕ, ◌++◌, ◌||◌, ◌∙◌, ◌∷◌, ◌≡◌}
+use Rattle.sj_lower.proofs.Words.{[], access, all_copied, AllByRecursion, ap, area, Array, BeginOnce, Bool, Cell, child, cond, Contents, copied, Dims, dims_of, false, Fits, flat_map, gives_value, held_in, is_first, IsPasteBetween, IsPlace, Line, List, Lowered, map, overlaps, own_task, Parts, Paste, paste_arguments, paste_at, paste_copy, paste_row, pasted, PasteKernel, pastes_of, pastes_to, pieces, places, pos, Program, R, rect_dims, refl, RW, same_cell, subst, sym, true, W, window, zeros, ℕ, ◌++◌, ◌||◌, ◌∙◌, ◌∷◌, ◌≡◌}
 use Rattle.std.proofs.lemmas.{Bool.cond_both, Bool.false≢true, Bool.or_left, List.length-replicate, List.map-append}
 use Rattle.sj_plan.proofs.{Copying.copies_to-begin, Copying.copy_between-within, Lists.each-filter, Lists.each-map, Lists.each-places, Repartitioning.pastes_to-copies, Repartitioning.pastes_to-make, Splitting.part_len-positive, Tiling.children_of-order, Tiling.children_of-tiling}
 use Rattle.sj_lower.proofs.{Contents.held-other, Contents.held-same, Contents.same_cell-itself, Elements.child-within, Filling.AreFilled, Filling.blocks-filled, Filling.HaveOwn, Folding.after_row, Folding.after_rows, Folding.Fills, Folding.one_gives}
