@@ -41,9 +41,9 @@ own-delivered ls ds l d e E is =
     let at : length (E.tasks ++ ls) + d.task.0 ≡ length E.tasks + (length ls + d.task.0) = omega (arith, length-append E.tasks ls) in
     let place : moved (length (E.tasks ++ ls)) d ≡ moved (length E.tasks) e = ap (λ n. let x : Delivery = record d { task = record { 0 = n } } in x) at ∙ ap (moved (length E.tasks)) is in
     let deliveries =
-        append_assoc E.deliveries (map (moved (length E.tasks)) ds) (moved (length (E.tasks ++ ls)) d ∷ [])
-        ∙ ap (λ (x : Delivery). E.deliveries ++ (map (moved (length E.tasks)) ds ++ x ∷ [])) place
-        ∙ ap (λ ys. E.deliveries ++ ys) (sym (map-append (moved (length E.tasks)) ds (e ∷ []))) in
+    append_assoc E.deliveries (map (moved (length E.tasks)) ds) (moved (length (E.tasks ++ ls)) d ∷ [])
+    ∙ ap (λ (x : Delivery). E.deliveries ++ (map (moved (length E.tasks)) ds ++ x ∷ [])) place
+    ∙ ap (λ ys. E.deliveries ++ ys) (sym (map-append (moved (length E.tasks)) ds (e ∷ []))) in
     λ i. record { tasks = append_assoc E.tasks ls (l ∷ []) i; deliveries = deliveries i; phase = E.phase }
 
 pub delivered-child : (f : ℕ × ℕ → Lowered) (p : Parts) (root : ℕ) (dims : Dims) (print : ℕ) (a b c : Expander) (line : Line) (l : Lowered) (d : Delivery) (n : ℕ) → Does a b line (with_own (first_children f p n) (first_deliveries root dims p print n)) → Does b c line (with_own (l ∷ []) (d ∷ []))

@@ -49,6 +49,7 @@ made_by p d s old new a line to k w x dims here holds none goes =
       };
       holds = λ from inside. ap (λ (n : Contents). held_in p n (old from)) row ∙ held-other p (new to) (copied (windows_of d s a) w (paste_copy x)) k (old from) (none from inside) ∙ holds from inside;
     }
+
 -- the first of the pastes, if there is one, begins its child
 abbrev first_begins : List Paste → Bool
 first_begins [] = false

@@ -1,5 +1,5 @@
 -- The log of phases where a phase begins.
-use Rattle.sj_phases.proofs.Words.{[], Access, access, ap, arith, begin_rows, Bool, Cell, cond, Contains, copy_at, false, first_units, init_of, init_row, init_rows, inl, inr, IsInit, IsPlain, kernel_of, length, length-append, Line, List, Lowered, names_as, None, OpenPhase, phase_at, PhaseOpening, Program, Redux, refl, Some, subst, sym, task_number, true, W, with_phase, ℕ, ◌+◌, ◌-◌, ◌<◌, ◌∙◌, ◌∷◌, ◌≡◌, ◌≤◌}
+use Rattle.sj_phases.proofs.Words.{[], Access, access, ap, arith, begin_rows, Cell, Contains, copy_at, first_units, init_of, init_row, init_rows, inl, inr, IsInit, IsPlain, kernel_of, length, length-append, Line, List, Lowered, None, OpenPhase, phase_at, PhaseOpening, Program, Redux, refl, Some, subst, sym, task_number, W, with_phase, ℕ, ◌+◌, ◌-◌, ◌<◌, ◌∙◌, ◌∷◌, ◌≡◌, ◌≤◌}
 use Rattle.std.proofs.lemmas.{Bool.cases_lt, Bool.cond_both, Bool.false≢true, List.FromFn.length-map-range_with_len}
 use Rattle.sj_codelet.proofs.Table.{kernel_of-codelet_of}
 use Rattle.sj_phases.proofs.{Combined.Phases, Folding.Stand, Folding.stand-append, Lists.one-case, Logging.CellInit, Logging.CopyInit, Logging.InOpen, Logging.IsInner, Logging.IsLogged, Logging.IsToCome, Logging.log-turned, Logging.Logged, Logging.none_isn't, Logging.row-at, Logging.row-of, Logging.some_is, Owning.IsOwn}

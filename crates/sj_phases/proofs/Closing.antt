@@ -3,7 +3,7 @@ use Rattle.sj_phases.proofs.Words.{[], Access, access, All, ap, arith, Bool, Cel
 use Rattle.std.proofs.lemmas.{Bool.cases_lt, List.Elements.All-cons, List.FromFn.get_or-range_with_len, List.FromFn.length-range_with_len}
 use Rattle.sj_codelet.proofs.Table.{kernel_of-codelet_of}
 use Rattle.sj_core.proofs.Readiness.{Contains-filter, Contains-from_filter, filter-Contains}
-use Rattle.sj_phases.proofs.{Combined.Phases, Folding.Stand, Lists.all-from, Lists.all-range, Lists.first-has, Lists.in-range, Lists.more-has, Lists.range-has, Lists.two-cases, Logging.AreApart, Logging.CellInit, Logging.CopyInit, Logging.Gift, Logging.gives-names, Logging.gives_to, Logging.InClosed, Logging.IsInner, Logging.IsLogged, Logging.log-turned, Logging.Logged, Logging.names-gives, Logging.none_isn't, Logging.row-at, Logging.row-of, Logging.used-now, Owning.copy-is, Owning.IsOwn}
+use Rattle.sj_phases.proofs.{Combined.Phases, Folding.Stand, Lists.all-from, Lists.all-range, Lists.first-has, Lists.in-range, Lists.more-has, Lists.range-has, Lists.two-cases, Logging.AreApart, Logging.CellInit, Logging.CopyInit, Logging.Gift, Logging.gives-names, Logging.gives_to, Logging.InClosed, Logging.IsInner, Logging.log-turned, Logging.Logged, Logging.names-gives, Logging.none_isn't, Logging.row-at, Logging.row-of, Logging.used-now, Owning.copy-is, Owning.IsOwn}
 
 module _ (p : Program) (n : ℕ) (phases : Phases) (c : Cell) (f : OpenPhase) (is : phases c ≡ Some f) (stand : Stand p n (combine_rows f c p.workers)) (own : IsOwn p c f.copies) (apart : AreApart p)
     (others : (d : Cell) (g : OpenPhase) → phases d ≡ Some g → IsPlain p d) (log : Logged p n phases []) where

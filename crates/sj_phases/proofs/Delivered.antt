@@ -1,5 +1,5 @@
 -- Each task of a program of blocks that delivers has one delivery, in order.
-use Rattle.sj_phases.proofs.Words.{[], All, AllPairs, ap, append_assoc, AreOrderly, arith, begin_rows, Bool, Cell, closed, combine_of, combine_row, combine_rows, cond, copy_at, count_by, Deliver, Delivery, direct, expand, expanded, Expansion, false, first_units, flat_map, fold, get_or, init_row, init_rows, inl, inr, IsDelivered, IsOrderly, Kernel, kernel_of, Least, length, length-append, Line, List, Lowered, map, moved, nat_eq, no_task, None, open_at, opened, OpenReductions, Option, phase_turned, PhaseOpening, plain_next, Plainly, Plus, prepared, Program, range_with_len, Reduction, refl, Some, subst, suc, sym, TaskBlock, units, ℕ, ◌++◌, ◌+◌, ◌-◌, ◌<◌, ◌∙◌, ◌∷◌, ◌≡◌, ◌≤◌}
+use Rattle.sj_phases.proofs.Words.{[], All, AllPairs, ap, append_assoc, arith, begin_rows, Bool, closed, combine_row, combine_rows, cond, copy_at, count_by, Deliver, Delivery, direct, expanded, Expansion, false, first_units, flat_map, fold, get_or, init_row, init_rows, inl, inr, IsDelivered, IsOrderly, Kernel, kernel_of, length, length-append, Line, List, Lowered, map, moved, nat_eq, no_task, None, opened, OpenReductions, Option, PhaseOpening, plain_next, Plainly, prepared, Program, range_with_len, refl, Some, subst, suc, sym, TaskBlock, units, ℕ, ◌++◌, ◌+◌, ◌-◌, ◌<◌, ◌∙◌, ◌∷◌, ◌≡◌, ◌≤◌}
 use Rattle.std.proofs.lemmas.{Bool.cases_lt, Bool.cond_both, Bool.Decides.Decides-eqb, Bool.ne_eqb, List.Elements.All-append, List.Elements.All-from_recursion, List.Elements.All-get_or, List.Elements.All-head, List.Elements.All-map, List.Elements.All-nil, List.Elements.All-tail, List.Elements.All-weaker, List.get_or-append-add, List.get_or-append_right, List.get_or-map, List.get_or_append_left, List.Kept.AllPairs-cons, List.length-map, List.Sums.sum_by-append, List.Sums.sum_by-cons}
 use Rattle.sj_base.proofs.{Bools.same_test, Lists.sum_by-agree, Lists.sum_by-map}
 use Rattle.sj_phases.proofs.{Blocks.by_closed, Good.none-combine, Good.none-init, Lists.by_option, Lists.fold_keeps}
@@ -101,8 +101,8 @@ pub delivered-block : (p : Program) (w : ℕ) (b : TaskBlock) (E : Expansion) (Q
 delivered-block p w b E Q was orderly h = (
   delivered-own (prepared w E b).tasks b.tasks (prepared w E b).deliveries b.deliveries orderly.delivered (delivered-prepared w b E h.0),
   subst (λ (ts : List Lowered). IsDelivered ts (Q.deliveries ++ map (moved (length (Q.tasks ++ units b))) b.deliveries)) (append_assoc Q.tasks (units b) (map direct b.tasks))
-  (delivered-own (Q.tasks ++ units b) (map direct b.tasks) Q.deliveries b.deliveries (delivered-like b.tasks (map direct b.tasks) b.deliveries (omega (arith, length-map b.tasks direct))
-  (λ n lt. ap (λ (l : Lowered). kernel_of l.codelet) (get_or-map direct b.tasks n no_task no_task lt)) (λ n past lt. absurd (omega (arith, past, lt, length-map b.tasks direct))) orderly.delivered) (delivered-more Q.tasks (units b) Q.deliveries (none-all b.opens b.line) h.1)),
+      (delivered-own (Q.tasks ++ units b) (map direct b.tasks) Q.deliveries b.deliveries (delivered-like b.tasks (map direct b.tasks) b.deliveries (omega (arith, length-map b.tasks direct))
+      (λ n lt. ap (λ (l : Lowered). kernel_of l.codelet) (get_or-map direct b.tasks n no_task no_task lt)) (λ n past lt. absurd (omega (arith, past, lt, length-map b.tasks direct))) orderly.delivered) (delivered-more Q.tasks (units b) Q.deliveries (none-all b.opens b.line) h.1)),
 )
 
 pub delivered-none : IsDelivered [] []

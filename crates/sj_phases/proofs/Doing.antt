@@ -1,5 +1,5 @@
 -- Steps of the code: what each does to an expansion, and several one after another.
-use Rattle.sj_phases.proofs.Words.{[], ap, append_assoc, arith, begin_rows, Bool, Cell, closed, combine_rows, cond, Delivery, Does, Expander, Expansion, false, fold, get, HasAt, HasExpansion, IfSome, if◌then◌else◌, IndexMap, init_row, init_rows, is_some, length, length-append, Line, List, Lowered, map, most, nat_eq, nat_lt, None, not, opened, OpenPhase, Option, over_after, phase_at, phase_turned, PhaseOpening, range_with_len, refl, Some, StandsAt, subst, sym, true, with_entries, with_own, with_phase, ℕ, ◌++◌, ◌+◌, ◌<◌, ◌∙◌, ◌∷◌, ◌≡◌, ◌≤◌}
+use Rattle.sj_phases.proofs.Words.{[], ap, append_assoc, arith, begin_rows, Bool, Cell, closed, combine_rows, cond, Delivery, Does, Expander, Expansion, false, fold, get, HasAt, HasExpansion, IfSome, if◌then◌else◌, init_row, init_rows, is_some, length, length-append, Line, List, Lowered, map, most, nat_eq, nat_lt, None, not, opened, OpenPhase, Option, over_after, phase_at, phase_turned, PhaseOpening, range_with_len, refl, Some, StandsAt, subst, sym, true, with_entries, with_own, with_phase, ℕ, ◌++◌, ◌+◌, ◌∙◌, ◌∷◌, ◌≡◌, ◌≤◌}
 use Rattle.std.proofs.lemmas.{Bool.cond_both, Bool.le-ltb, Bool.lt-ltb, Bool.ltb-true, Bool.not-false, Bool.not-true, List.append-nil, List.Folds.fold_stays, List.FromFn.map-range_with_len_more, List.nil_from_length}
 use Rattle.sj_base.proofs.Options.{IfSome-at}
 use Rattle.sj_phases.proofs.{Blocks.GoesOn, Lists.by_option, Logging.by_which, Logging.phase-other, Logging.phase-own}

@@ -1,7 +1,7 @@
 -- The program of blocks is proper, and holds and hands over what it does without phases.
-use Rattle.sj_phases.proofs.Words.{[], Access, access, after_chosen, All, ap, append_assoc, AreDelivered, AreOpenings, AreOrderly, arith, Bool, Cell, cell_info, CellInfo, cells_below, cells_of, cond, Contains, copy_of, data_operands, Deliver, Delivery, direct, direct_access, expand, expanded, Expansion, false, filter, final, FitsCodelet, fold, get_or, given, handed_over, HasValueBefore, held_before, held_in, HoldsPlain, inl, inr, is_data, is_redux, is_scratch, is_some, IsDelivered, IsLawful, IsOrderly, IsOrderlyTask, IsPlain, IsUnaliased, Kernel, kernel_of, last_block, length, length-append, Line, List, Lowered, map, MayExpand, MayHaveModes, moved, no_cell, no_task, None, none_open, not, nothing, open_after, open_at, OpenReductions, out, PhaseOpening, plain_next, plain_program, plain_rows, Plainly, prepared, Program, program_of_blocks, Proper, R, range_with_len, reads_value, Reduction, refl, same_cell, shut_by, Some, subst, sym, Task, task, task_of, TaskBlock, true, units, with_opening, with_shut, worked_on, Worker, ℕ, ◌++◌, ◌+◌, ◌<◌, ◌∙◌, ◌∷◌, ◌≡◌, ◌⊎◌}
+use Rattle.sj_phases.proofs.Words.{[], Access, access, after_chosen, All, ap, append_assoc, AreDelivered, AreOpenings, AreOrderly, arith, Bool, Cell, cell_info, CellInfo, cells_below, cells_of, cond, Contains, copy_of, data_operands, Deliver, Delivery, direct, direct_access, expand, expanded, Expansion, false, filter, final, FitsCodelet, fold, get_or, given, handed_over, HasValueBefore, held_before, held_in, HoldsPlain, inl, inr, is_data, is_redux, is_scratch, is_some, IsDelivered, IsLawful, IsOrderly, IsOrderlyTask, IsPlain, IsUnaliased, Kernel, kernel_of, last_block, length, length-append, Line, List, Lowered, map, MayExpand, MayHaveModes, moved, no_task, None, none_open, not, nothing, open_after, open_at, OpenReductions, out, PhaseOpening, plain_program, plain_rows, Plainly, prepared, Program, program_of_blocks, Proper, R, range_with_len, reads_value, Reduction, refl, same_cell, shut_by, Some, subst, sym, Task, task, task_of, TaskBlock, true, units, with_opening, with_shut, worked_on, Worker, ℕ, ◌++◌, ◌+◌, ◌<◌, ◌∙◌, ◌∷◌, ◌≡◌, ◌⊎◌}
 use Rattle.sj_core.proofs.Given.{none-open}
-use Rattle.std.proofs.lemmas.{Bool.cases_lt, List.append-nil, List.Elements.All-contains, List.Elements.All-from_get_or, List.Elements.Contains-get_or, List.get_or-map, List.get_or_default, List.get_or_past, List.length-map, List.map-append, List.Sums.fold-append}
+use Rattle.std.proofs.lemmas.{List.append-nil, List.Elements.All-contains, List.Elements.All-from_get_or, List.Elements.Contains-get_or, List.get_or-map, List.get_or_default, List.length-map, List.map-append, List.Sums.fold-append}
 use Rattle.sj_base.proofs.Modes.{one-read}
 use Rattle.sj_core.proofs.{Folding.map-same, Modes.deliver-modes, Readiness.Contains-filter, Readiness.Contains-map, TaskCells.operand-inside, Workers.workers-alike}
 use Rattle.sj_phases.proofs.{Blocks.along-blocks, Blocks.begun-blocks, Blocks.fine-among, Blocks.fine-block, Blocks.fine-start, Blocks.orderly-twin, Blocks.prepared-deliveries, Blocks.stand-at, Combined.denoted-closed, Combined.IsTrusted, Combined.Phases, Contents.contents_before, Contents.first_worker, Delivered.delivered-block, Delivered.delivered-none, Fine.Begins, Fine.begins-stand, Fine.by_of, Fine.Fine, Fine.none-by, Good.AreTwins, Good.IsGood, Good.twin-copy, Good.twin-plain, Holding.Holds, Lists.all-from, Lists.by_option, Lists.cons-cases, Lists.fold_keeps, Lists.range-has, Lists.split-at, Logging.by_which, Logging.has-phases, Logging.none_isn't, Logging.phase-other, Logging.phase-own, Logging.some_is, Owning.is-inside}
@@ -99,24 +99,24 @@ module _ (rows : List CellInfo) (workers : ℕ) (bs : List TaskBlock) (can : May
     one : (x : TaskBlock) (F : Expansion) (Q : Plainly) (was : OpenReductions) → IsOrderly p was x → Begins p.tasks (expanded p.workers F x).tasks → Begins q.tasks (Q.tasks ++ plain_rows x) → Fine p q F.tasks F.phase Q.tasks [] was
         → (e : Delivery) → Contains x.deliveries e → handed_over p (moved (length (prepared p.workers F x).tasks) e) ≡ handed_over q (moved (length (Q.tasks ++ units x)) e)
     one x F Q was h b d fine_before e has' =
-          let Ready = prepared p.workers F x in
-          let us = Q.tasks ++ units x in
-          let n = length Ready.tasks in
-          let m = length us in
-          let i = e.task.0 in
-          let lt = All-contains (λ (z : Delivery). z.task.0 < length x.tasks) x.deliveries e h.delivered.below has' in
-          let deliver = All-contains (λ (z : Delivery). kernel_of (get_or x.tasks z.task.0 no_task).codelet ≡ Some Deliver) x.deliveries e h.delivered.deliver has' in
-          let l = get_or x.tasks i no_task in
-          let s = split-at x.tasks i no_task lt in
-          let f = fine-among p q twins can.proper F Q.tasks was x h b d fine_before s.0 (l ∷ s.1) s.2 in
-          let at = stand-at p n x.tasks l i (begins-stand p Ready.tasks x.tasks b) lt (get_or_default x.tasks i l no_task lt) in
-          let plain_stand = begins-stand q us (map direct x.tasks) (d.0, d.1 ∙ ap (λ zs. zs ++ d.0) (sym (append_assoc Q.tasks (units x) (map direct x.tasks)))) in
-          let plain_at = stand-at q m (map direct x.tasks) (direct l) i plain_stand (omega (arith, lt, length-map x.tasks direct)) (get_or-map direct x.tasks i no_task (direct l) lt) in
-          let there : length (Ready.tasks ++ s.0) ≡ n + i = length-append Ready.tasks s.0 ∙ ap (λ k. n + k) s.3 in
-          let plain_there : length (us ++ map direct s.0) ≡ m + i = length-append us (map direct s.0) ∙ ap (λ k. m + k) (length-map s.0 direct ∙ s.3) in
-          let holds = subst (λ k. Holds p q Ready.phase (contents_before p k) (contents_before q (m + i))) there (subst (λ k. Holds p q Ready.phase (contents_before p (length (Ready.tasks ++ s.0))) (contents_before q k)) plain_there (f.holds trust)) in
-          let alike = given-alike (n + i) (m + i) Ready.phase (open_at was x) l holds f.linked (All-contains (IsOrderlyTask p (open_at was x)) x.tasks l h.tasks (Contains-get_or x.tasks i no_task lt)) deliver at.1 at.0 plain_at.0 in
-          λ k. (e.root, e.place, e.print, alike k)
+        let Ready = prepared p.workers F x in
+        let us = Q.tasks ++ units x in
+        let n = length Ready.tasks in
+        let m = length us in
+        let i = e.task.0 in
+        let lt = All-contains (λ (z : Delivery). z.task.0 < length x.tasks) x.deliveries e h.delivered.below has' in
+        let deliver = All-contains (λ (z : Delivery). kernel_of (get_or x.tasks z.task.0 no_task).codelet ≡ Some Deliver) x.deliveries e h.delivered.deliver has' in
+        let l = get_or x.tasks i no_task in
+        let s = split-at x.tasks i no_task lt in
+        let f = fine-among p q twins can.proper F Q.tasks was x h b d fine_before s.0 (l ∷ s.1) s.2 in
+        let at = stand-at p n x.tasks l i (begins-stand p Ready.tasks x.tasks b) lt (get_or_default x.tasks i l no_task lt) in
+        let plain_stand = begins-stand q us (map direct x.tasks) (d.0, d.1 ∙ ap (λ zs. zs ++ d.0) (sym (append_assoc Q.tasks (units x) (map direct x.tasks)))) in
+        let plain_at = stand-at q m (map direct x.tasks) (direct l) i plain_stand (omega (arith, lt, length-map x.tasks direct)) (get_or-map direct x.tasks i no_task (direct l) lt) in
+        let there : length (Ready.tasks ++ s.0) ≡ n + i = length-append Ready.tasks s.0 ∙ ap (λ k. n + k) s.3 in
+        let plain_there : length (us ++ map direct s.0) ≡ m + i = length-append us (map direct s.0) ∙ ap (λ k. m + k) (length-map s.0 direct ∙ s.3) in
+        let holds = subst (λ k. Holds p q Ready.phase (contents_before p k) (contents_before q (m + i))) there (subst (λ k. Holds p q Ready.phase (contents_before p (length (Ready.tasks ++ s.0))) (contents_before q k)) plain_there (f.holds trust)) in
+        let alike = given-alike (n + i) (m + i) Ready.phase (open_at was x) l holds f.linked (All-contains (IsOrderlyTask p (open_at was x)) x.tasks l h.tasks (Contains-get_or x.tasks i no_task lt)) deliver at.1 at.0 plain_at.0 in
+        λ k. (e.root, e.place, e.print, alike k)
 
     pub holds_plain : HoldsPlain rows workers bs
     holds_plain = record {
@@ -124,9 +124,11 @@ module _ (rows : List CellInfo) (workers : ℕ) (bs : List TaskBlock) (can : May
       handed = (begun-blocks p q (λ F Q o. Fine p q F.tasks F.phase Q.tasks [] o × (map (handed_over p) F.deliveries ≡ map (handed_over q) Q.deliveries))
           (λ x F Q o h b d before.
           (let n = length (prepared p.workers F x).tasks in let m = length (Q.tasks ++ units x) in
-          let own = map-map (handed_over p) (moved n) x.deliveries ∙ map-same (λ e. handed_over p (moved n e)) (λ e. handed_over q (moved m e)) x.deliveries (one x F Q o h b d before.0) ∙ sym (map-map (handed_over q) (moved m) x.deliveries) in
-          (fine-block p q twins can.proper F Q.tasks o x h b d before.0, map-append (handed_over p) (prepared p.workers F x).deliveries (map (moved n) x.deliveries)
-          ∙ (λ i. (ap (map (handed_over p)) (prepared-deliveries p.workers F x) ∙ before.1) i ++ own i) ∙ sym (map-append (handed_over q) Q.deliveries (map (moved m) x.deliveries)))))
+          let own = map-map (handed_over p) (moved n) x.deliveries ∙ map-same (λ e. handed_over p (moved n e)) (λ e. handed_over q (moved m e)) x.deliveries (one x F Q o h b d before.0) ∙ sym (map-map (handed_over q) (moved m) x.deliveries) in (
+            fine-block p q twins can.proper F Q.tasks o x h b d before.0,
+            map-append (handed_over p) (prepared p.workers F x).deliveries (map (moved n) x.deliveries)
+                ∙ (λ i. (ap (map (handed_over p)) (prepared-deliveries p.workers F x) ∙ before.1) i ++ own i) ∙ sym (map-append (handed_over q) Q.deliveries (map (moved m) x.deliveries)),
+          )))
           bs nothing start none_open orderly ([], sym (append-nil p.tasks)) ([], sym (append-nil q.tasks)) (fine-start p q twins can.proper, refl)).1;
     }
 

@@ -1,7 +1,6 @@
 -- Without phases there are no more tasks than with them.
-use Rattle.sj_phases.proofs.Words.{[], ap, append_assoc, AreOpenings, AreOrderly, arith, begin_rows, Cell, CellInfo, closed, cond, direct, expand, expanded, Expansion, false, first_units, flat_map, fold, init_row, init_rows, IsOrderly, IsOrderlyOpening, length, length-append, Line, List, Lowered, map, None, none_open, nothing, open_at, opened, OpenReductions, Option, phase_at, PhaseOpening, plain_next, plain_program, plain_rows, Plainly, prepared, Program, Reduction, refl, same_cell, shut_by, Some, sym, TaskBlock, true, units, with_opening, with_shut, ℕ, ◌++◌, ◌∙◌, ◌∷◌, ◌≡◌, ◌≤◌}
-use Rattle.std.proofs.lemmas.{Bool.cond_both, List.Folds.fold_along, List.length-map}
-use Rattle.sj_base.proofs.SameIds.{same_cell-is}
+use Rattle.sj_phases.proofs.Words.{[], ap, append_assoc, AreOpenings, AreOrderly, arith, begin_rows, Cell, CellInfo, closed, cond, direct, expand, expanded, Expansion, first_units, flat_map, fold, init_row, init_rows, IsOrderly, IsOrderlyOpening, length, length-append, Line, List, Lowered, map, None, none_open, nothing, open_at, opened, OpenReductions, phase_at, PhaseOpening, plain_next, plain_program, plain_rows, Plainly, prepared, Program, refl, shut_by, Some, sym, TaskBlock, units, with_opening, with_shut, ℕ, ◌++◌, ◌∙◌, ◌∷◌, ◌≡◌, ◌≤◌}
+use Rattle.std.proofs.lemmas.{List.Folds.fold_along, List.length-map}
 use Rattle.sj_phases.proofs.{Blocks.along-blocks, Blocks.by_closed, Blocks.goes-closes, Fine.by_of, Lists.by_option, Logging.phase-both, Logging.phase-each}
 
 -- where a phase is open, it is known with its reduction

@@ -1,6 +1,6 @@
 -- What holds of the program of blocks and of their program without phases, task by task.
-use Rattle.sj_phases.proofs.Words.{[], Access, access, All, ap, arith, begin_rows, Cell, cell_info, CellInfo, closed, combine_row, combine_rows, cond, Contains, Contents, Contributes, contributes_of, copy_at, data_operands, dims_of, direct, Expansion, false, first_units, FitsCodelet, HasValueBefore, init_row, inl, inr, is_redux, is_some, is_written, IsOrderlyOpening, IsOrderlyTask, IsPlain, IsReduction, length, length-append, Line, List, list_any, Lowered, no_cell, no_task, None, not, opened, OpenPhase, OpenReductions, Option, option_map, out, phase_at, phase_turned, PhaseOpening, Program, Proper, reads_value, Reduction, Redux, refl, same_cell, Some, subst, subst₂, sym, task, task_of, true, with_opening, with_phase, with_shut, Worker, ℕ, ◌&&◌, ◌++◌, ◌+◌, ◌-◌, ◌<◌, ◌||◌, ◌∙◌, ◌∷◌, ◌≡◌, ◌≤◌}
-use Rattle.std.proofs.lemmas.{Bool.cases_Bool, Bool.cases_lt, List.append-nil, List.Elements.All-contains, List.Elements.All-get_or, List.FromFn.length-map-range_with_len, List.get_or_past}
+use Rattle.sj_phases.proofs.Words.{[], Access, access, ap, arith, begin_rows, Cell, cell_info, CellInfo, closed, combine_row, combine_rows, cond, Contains, Contents, Contributes, contributes_of, copy_at, data_operands, dims_of, direct, Expansion, false, first_units, FitsCodelet, HasValueBefore, init_row, inl, inr, is_redux, is_some, is_written, IsOrderlyOpening, IsOrderlyTask, IsPlain, IsReduction, length, length-append, Line, List, list_any, Lowered, no_task, None, not, opened, OpenPhase, OpenReductions, Option, option_map, out, phase_at, phase_turned, PhaseOpening, Program, Proper, reads_value, Reduction, Redux, refl, same_cell, Some, subst, subst₂, sym, task, task_of, true, with_opening, with_phase, with_shut, Worker, ℕ, ◌&&◌, ◌++◌, ◌+◌, ◌-◌, ◌<◌, ◌||◌, ◌∙◌, ◌∷◌, ◌≡◌, ◌≤◌}
+use Rattle.std.proofs.lemmas.{Bool.cases_Bool, Bool.cases_lt, List.append-nil, List.Elements.All-contains, List.Elements.All-get_or, List.FromFn.length-map-range_with_len}
 use Rattle.sj_core.proofs.{Readiness.list_any-some, Sized.after_chosen-sized, Sized.AreSized}
 use Rattle.sj_phases.proofs.{Beginning.begin-length, Beginning.begin-parts, Beginning.beginner, Beginning.log-begin, Beginning.OfCell, Beginning.OfCopy, Closing.log-close, Combined.IsTrusted, Combined.Phases, Contents.contents-next, Contents.contents_before, Contents.first_worker, Folding.after_rows, Folding.contents-rows, Folding.later, Folding.Stand, Folding.stand-there, Good.AreTwins, Good.good_combine, Good.good_init, Good.good_own, Good.HasItsCopies, Good.IsGood, Good.twin-copy, Good.twin-dims, Good.values-own, Good.values-units, Holding.AreOwned, Holding.bare, Holding.Holds, Holding.holds-begin, Holding.holds-beside, Holding.holds-close, Holding.holds-gift, Holding.holds-line, Lists.all-from, Lists.by_option, Logging.AreApart, Logging.IsLogged, Logging.IsOwnTask, Logging.IsToCome, Logging.log-line, Logging.log-own, Logging.Logged, Logging.none_isn't, Logging.phase-both, Logging.phase-each, Logging.redux-access, Logging.row-at, Logging.some_is, Logging.used-now, Owning.copy-is, Owning.is-copy, Owning.is-inside, Owning.IsOwn, Phasing.turned-bare}
 use Rattle.sj_base.proofs.SameIds.{same_cell-itself}
@@ -74,20 +74,20 @@ module _ (p q : Program) (twins : AreTwins p q) (proper : Proper q) where
         let u = used-now p (length ts) phases fine.logged c f is in
         let given = later p u.0 (length ts) c (omega (arith, u.2)) (All-contains (λ (a : Access). reads_value a.mode ≡ true → HasValueBefore p (task u.0) a.cell) (task_of p (task u.0)).accesses (access Redux c) (fine.good u.0 u.2).values u.3 refl) in
         record {
-      good = good-more p (length ts) (length (ts ++ rows)) fine.good (λ n new lt. (
-          let w : Worker = record { 0 = n - length ts } in
-          let below : w.0 < p.workers = omega (arith, new, lt, longer) in
-          let copy = copy_there c f.copies w own.partials below in
-          subst (IsGood p n) (sym (row-at p (λ v. combine_row f.by c f.line (copy_at f.copies v)) (length ts) stand n new (omega (arith, lt, longer))))
-          (good_combine p n f.by c f.line (copy_at f.copies w.0) copy.0 (is-inside p c f.copies own.partials) copy.1
-          (turned-bare c (copy_at f.copies w.0) (bare p c c f.copies own.plain own.partials w.0 below))
-          (later p (length ts) n (copy_at f.copies w.0) new (copy_given (length ts) c f.by f.copies (fine.logged.start c) (fine.logged.opened c f is) w.0 below)) (later p (length ts) n c new given))));
-      logged = subst (λ n. Logged p n (with_phase c None phases) []) (sym longer) (log-close p (length ts) phases c f is stand own apart (λ d g h. (fine.owned d g h).plain) fine.logged);
-      values = λ d h. later p (length ts) (length (ts ++ rows)) d (omega (arith, longer)) (fine.values d h);
-      owned = phase-each c None phases (λ d o. (g : OpenPhase) → o ≡ Some g → IsOwn p d g.copies) (λ g e. absurd (none_isn't g e)) (λ d other. fine.owned d);
-      linked = phase-both c None phases None was (λ d o r. by_of o ≡ r) refl (λ d other. fine.linked d);
-      holds = λ trust. subst (λ (k : Contents). Holds p q (with_phase c None phases) k (contents_before q (length us))) (sym (contents-more p ts rows b)) (holds-close p q phases fine.owned (contents_before p (length ts)) (contents_before q (length us)) (fine.holds trust) c f is);
-    }
+          good = good-more p (length ts) (length (ts ++ rows)) fine.good (λ n new lt. (
+              let w : Worker = record { 0 = n - length ts } in
+              let below : w.0 < p.workers = omega (arith, new, lt, longer) in
+              let copy = copy_there c f.copies w own.partials below in
+              subst (IsGood p n) (sym (row-at p (λ v. combine_row f.by c f.line (copy_at f.copies v)) (length ts) stand n new (omega (arith, lt, longer))))
+              (good_combine p n f.by c f.line (copy_at f.copies w.0) copy.0 (is-inside p c f.copies own.partials) copy.1
+              (turned-bare c (copy_at f.copies w.0) (bare p c c f.copies own.plain own.partials w.0 below))
+              (later p (length ts) n (copy_at f.copies w.0) new (copy_given (length ts) c f.by f.copies (fine.logged.start c) (fine.logged.opened c f is) w.0 below)) (later p (length ts) n c new given))));
+          logged = subst (λ n. Logged p n (with_phase c None phases) []) (sym longer) (log-close p (length ts) phases c f is stand own apart (λ d g h. (fine.owned d g h).plain) fine.logged);
+          values = λ d h. later p (length ts) (length (ts ++ rows)) d (omega (arith, longer)) (fine.values d h);
+          owned = phase-each c None phases (λ d o. (g : OpenPhase) → o ≡ Some g → IsOwn p d g.copies) (λ g e. absurd (none_isn't g e)) (λ d other. fine.owned d);
+          linked = phase-both c None phases None was (λ d o r. by_of o ≡ r) refl (λ d other. fine.linked d);
+          holds = λ trust. subst (λ (k : Contents). Holds p q (with_phase c None phases) k (contents_before q (length us))) (sym (contents-more p ts rows b)) (holds-close p q phases fine.owned (contents_before p (length ts)) (contents_before q (length us)) (fine.holds trust) c f is);
+        }
 
   pub fine-close : (E : Expansion) (us : List Lowered) (was : OpenReductions) (c : Cell) → Begins p.tasks (closed p.workers E c).tasks → Fine p q E.tasks E.phase us [] was → Fine p q (closed p.workers E c).tasks (closed p.workers E c).phase us [] (with_shut was c)
   fine-close E us was c b fine = by_option (E.phase c) (λ o. let F : Expansion = elim o as (λ _. Expansion) [ None ↦ E | Some f ↦ phase_turned (combine_rows f c p.workers) c None E ] in Begins p.tasks F.tasks → Fine p q F.tasks F.phase us [] (with_shut was c))
@@ -185,18 +185,18 @@ module _ (p q : Program) (twins : AreTwins p q) (proper : Proper q) where
         let partials = (fine.owned a.cell g.0 g.1).partials in
         (ap (λ (o : Option Cell). is_some o) partials, λ w below. subst (HasValueBefore p (task (length ts))) (sym (copy-is p a.cell g.0.copies w partials)) (copy_given (length ts) a.cell g.0.by g.0.copies (fine.logged.start a.cell) (fine.logged.opened a.cell g.0 g.1) w.0 below)))) in
         record {
-      good = good-more p (length ts) (length (ts ++ l ∷ [])) fine.good (λ i new lt. (let same : length ts ≡ i = omega (arith, new, lt, length-append ts (l ∷ [])) in
-          subst (λ (x : ℕ). IsGood p x (task_of p (task x))) same (subst (IsGood p (length ts)) (sym o_stand.0)
-          (good_own p q twins proper (length us) o_plain_stand.1 l o_plain_stand.0 (length ts) was fine.values contributes its_copies orderly.plain))));
-      logged = subst (λ x. Logged p x phases ls) (sym (length-append ts (l ∷ []))) (log-own p (length ts) phases l ls o_stand.0 o_task fine.logged);
-      values = λ c h. subst (λ x. HasValueBefore p (task x) c) (sym (length-append ts (l ∷ []))) (values-own p q twins proper (length us) o_plain_stand.1 l o_plain_stand.0 (length ts) o_stand.0 fine.values c (subst (λ x. HasValueBefore q (task x) c) (length-append us (direct l ∷ [])) h));
-      owned = fine.owned;
-      linked = fine.linked;
-      holds = λ trust.
-          subst₂ (Holds p q phases) (sym (contents-next p (length ts) (length (ts ++ l ∷ [])) (length-append ts (l ∷ [])))) (sym (contents-next q (length us) (length (us ++ direct l ∷ [])) (length-append us (direct l ∷ []))))
-          (elim (cases_Bool (list_any (λ (a : Access). is_redux a.mode) l.accesses)) [
-            | inl any ↦ (let a = list_any-some (λ (a : Access). is_redux a.mode) l.accesses any in
-                holds-gift p q twins phases fine.owned apart (length ts) (length us) (fine.holds trust) l o_stand.0 o_plain_stand.0 o_task trust o_stand.1 (All-get_or (FitsCodelet q) q.tasks (length us) no_task o_plain_stand.1 proper.codelets) a.0 a.1 a.2)
-            | inr none ↦ holds-beside p q twins phases fine.owned apart (length ts) (length us) (fine.holds trust) l o_stand.0 o_plain_stand.0 o_task none
-          ]);
-    }
+          good = good-more p (length ts) (length (ts ++ l ∷ [])) fine.good (λ i new lt. (let same : length ts ≡ i = omega (arith, new, lt, length-append ts (l ∷ [])) in
+              subst (λ (x : ℕ). IsGood p x (task_of p (task x))) same (subst (IsGood p (length ts)) (sym o_stand.0)
+              (good_own p q twins proper (length us) o_plain_stand.1 l o_plain_stand.0 (length ts) was fine.values contributes its_copies orderly.plain))));
+          logged = subst (λ x. Logged p x phases ls) (sym (length-append ts (l ∷ []))) (log-own p (length ts) phases l ls o_stand.0 o_task fine.logged);
+          values = λ c h. subst (λ x. HasValueBefore p (task x) c) (sym (length-append ts (l ∷ []))) (values-own p q twins proper (length us) o_plain_stand.1 l o_plain_stand.0 (length ts) o_stand.0 fine.values c (subst (λ x. HasValueBefore q (task x) c) (length-append us (direct l ∷ [])) h));
+          owned = fine.owned;
+          linked = fine.linked;
+          holds = λ trust.
+              subst₂ (Holds p q phases) (sym (contents-next p (length ts) (length (ts ++ l ∷ [])) (length-append ts (l ∷ [])))) (sym (contents-next q (length us) (length (us ++ direct l ∷ [])) (length-append us (direct l ∷ []))))
+              (elim (cases_Bool (list_any (λ (a : Access). is_redux a.mode) l.accesses)) [
+                | inl any ↦ (let a = list_any-some (λ (a : Access). is_redux a.mode) l.accesses any in
+                    holds-gift p q twins phases fine.owned apart (length ts) (length us) (fine.holds trust) l o_stand.0 o_plain_stand.0 o_task trust o_stand.1 (All-get_or (FitsCodelet q) q.tasks (length us) no_task o_plain_stand.1 proper.codelets) a.0 a.1 a.2)
+                | inr none ↦ holds-beside p q twins phases fine.owned apart (length ts) (length us) (fine.holds trust) l o_stand.0 o_plain_stand.0 o_task none
+              ]);
+        }

@@ -1,8 +1,8 @@
 -- What the cells denote, with contributions in partial copies, is what they hold by the same blocks without phases.
-use Rattle.sj_phases.proofs.Words.{[], Access, access, after_task, ap, arith, Array, begin_rows, Cell, cell_info, Codelet, combine_rows, combined, cond, Contains, Contents, copy_at, data_operands, dims_of, direct, direct_access, false, filter, find, first_units, FitsCodelet, found, has_cell, held_in, init_rows, inl, inr, is_in_order, is_redux, is_scratch, is_written, IsContribution, IsCopyOf, IsPlain, IsReduction, IsTile, Kernel, kernel_of, length, Line, List, list_any, Lowered, map, None, not, OpenPhase, operand, out, phase_at, PhaseOpening, Program, Redux, refl, result_of, results, RW, same_cell, Some, starts_as_zeros, subst, sym, task, task_of, true, unit_of, with_phase, worked_on, Worker, written_cells, zeros, zip, ℕ, ◌++◌, ◌<◌, ◌||◌, ◌∙◌, ◌∷◌, ◌≡◌, ◌≢◌}
+use Rattle.sj_phases.proofs.Words.{[], Access, access, after_task, ap, arith, Array, begin_rows, Cell, cell_info, Codelet, combine_rows, combined, cond, Contains, Contents, copy_at, data_operands, dims_of, direct, direct_access, false, filter, find, first_units, FitsCodelet, found, has_cell, held_in, init_rows, inl, inr, is_in_order, is_redux, is_scratch, is_written, IsCopyOf, IsPlain, IsReduction, IsTile, Kernel, kernel_of, length, Line, List, list_any, Lowered, map, None, not, OpenPhase, operand, out, phase_at, PhaseOpening, Program, refl, result_of, results, RW, same_cell, Some, starts_as_zeros, subst, sym, task, task_of, true, unit_of, with_phase, worked_on, Worker, written_cells, zeros, zip, ℕ, ◌++◌, ◌<◌, ◌||◌, ◌∙◌, ◌∷◌, ◌≡◌, ◌≢◌}
 use Rattle.sj_codelet.proofs.{NewArrays.out-makes_tiles, Table.codelet_of-kernel}
 use Rattle.std.proofs.lemmas.{Bool.cond_both, Bool.false_from_ne_true, List.Elements.Contains-append_left, List.map-append}
-use Rattle.sj_core.proofs.{CellLists.same_cell-refl, Copies.direct-cell, Folding.after_task-other, Folding.held-append, Folding.held_over, Folding.held_over-other, Folding.map-same, Modes.reads_isn't_scratch, Modes.written_isn't_scratch, Readiness.Contains-filter, Readiness.Contains-from_filter, Sharing.operand_for, Sized.AreSized, Sized.Fills, Swapping.first_ins, Swapping.Updates, Updating.first-is, Updating.last-is, Values.results-complete}
+use Rattle.sj_core.proofs.{CellLists.same_cell-refl, Copies.direct-cell, Folding.after_task-other, Folding.held-append, Folding.held_over, Folding.held_over-other, Folding.map-same, Modes.reads_isn't_scratch, Modes.written_isn't_scratch, Readiness.Contains-filter, Readiness.Contains-from_filter, Sharing.operand_for, Sized.AreSized, Sized.Fills, Swapping.first_ins, Updating.first-is, Updating.last-is, Values.results-complete}
 use Rattle.sj_phases.proofs.{Adding.added, Adding.all-sized, Adding.denotes-more, Adding.others-kept, Adding.result-more, Adding.sized, Adding.SizedCopies, Adding.updates, Beginning.AreApart, Combined.all_workers, Combined.all_workers-below, Combined.denoted, Combined.denoted-closed, Combined.denoted-open, Combined.denoted-same, Combined.IsTrusted, Combined.Phases, Combined.with_all, Contents.contents_before, Contents.first_worker, Folding.after_row, Folding.after_rows, Folding.after_rows-append, Good.AreTwins, Good.direct-itself, Good.direct-same, Good.map-itself, Good.none-redux, Good.twin-dims, Lists.by_option, Lists.filter-last, Lists.first-has, Lists.more-has, Logging.IsOwnTask, Logging.none_isn't, Logging.phase-other, Logging.phase-own, Logging.redux-access, Logging.some_is, Logging.unlike, Owning.is-copy, Owning.IsOwn, Phasing.closed-others, Phasing.combines-value, Phasing.each_cell, Phasing.inits-copies, Phasing.inits-others, Phasing.IsBare, Phasing.units-others, Phasing.units-same}
 use Rattle.sj_base.proofs.SameIds.{same_cell-is, same_cell-turned}
 
