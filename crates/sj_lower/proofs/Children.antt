@@ -37,22 +37,14 @@ no-deliveries x line ls ds none also = subst (λ (es : List Delivery). Does x x 
 
 -- tasks with deliveries, and one more with its own
 own-delivered : (ls : List Lowered) (ds : List Delivery) (l : Lowered) (d e : Delivery) (E : Expansion) → moved (length ls) d ≡ e → with_own (l ∷ []) (d ∷ []) (with_own ls ds E) ≡ with_own (ls ++ l ∷ []) (ds ++ e ∷ []) E
-own-delivered ls ds l d e E is = λ i. record {
-  tasks = append_assoc E.tasks ls (l ∷ []) i;
-  deliveries = deliveries i;
-  phase = E.phase;
-}
-  where
-    place : moved (length (E.tasks ++ ls)) d ≡ moved (length E.tasks) e
-    place =
-        let at : length (E.tasks ++ ls) + d.task.0 ≡ length E.tasks + (length ls + d.task.0) = omega (arith, length-append E.tasks ls) in
-        ap (λ n. let x : Delivery = record d { task = record { 0 = n } } in x) at ∙ ap (moved (length E.tasks)) is
-
-    deliveries : (E.deliveries ++ map (moved (length E.tasks)) ds) ++ moved (length (E.tasks ++ ls)) d ∷ [] ≡ E.deliveries ++ map (moved (length E.tasks)) (ds ++ e ∷ [])
-    deliveries =
-        append_assoc E.deliveries (map (moved (length E.tasks)) ds) (moved (length (E.tasks ++ ls)) d ∷ [])
-        ∙ ap (λ (x : Delivery). E.deliveries ++ (map (moved (length E.tasks)) ds ++ x ∷ [])) place
-        ∙ ap (λ ys. E.deliveries ++ ys) (sym (map-append (moved (length E.tasks)) ds (e ∷ [])))
+own-delivered ls ds l d e E is =
+    let at : length (E.tasks ++ ls) + d.task.0 ≡ length E.tasks + (length ls + d.task.0) = omega (arith, length-append E.tasks ls) in
+    let place : moved (length (E.tasks ++ ls)) d ≡ moved (length E.tasks) e = ap (λ n. let x : Delivery = record d { task = record { 0 = n } } in x) at ∙ ap (moved (length E.tasks)) is in
+    let deliveries =
+    append_assoc E.deliveries (map (moved (length E.tasks)) ds) (moved (length (E.tasks ++ ls)) d ∷ [])
+    ∙ ap (λ (x : Delivery). E.deliveries ++ (map (moved (length E.tasks)) ds ++ x ∷ [])) place
+    ∙ ap (λ ys. E.deliveries ++ ys) (sym (map-append (moved (length E.tasks)) ds (e ∷ []))) in
+    λ i. record { tasks = append_assoc E.tasks ls (l ∷ []) i; deliveries = deliveries i; phase = E.phase }
 
 pub delivered-child : (f : ℕ × ℕ → Lowered) (p : Parts) (root : ℕ) (dims : Dims) (print : ℕ) (a b c : Expander) (line : Line) (l : Lowered) (d : Delivery) (n : ℕ) → Does a b line (with_own (first_children f p n) (first_deliveries root dims p print n)) → Does b c line (with_own (l ∷ []) (d ∷ []))
     → l ≡ f (place_at p n) → d ≡ a_delivery root dims p print (0, place_at p n) → Does a c line (with_own (first_children f p (n + 1)) (first_deliveries root dims p print (n + 1)))

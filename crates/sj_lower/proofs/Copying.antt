@@ -3,6 +3,7 @@ use Rattle.sj_lower.proofs.Words.{[], a_root, All, ap, area, AreLaid, arith, Cel
 use Rattle.std.proofs.lemmas.{Bool.cases_eq, Bool.cases_lt, List.Elements.All-append, List.Elements.All-get_or, List.Elements.All-map, List.Elements.All-replicate, List.Elements.All-set, List.get_or-append_right, List.get_or-replicate, List.get_or-set_other, List.get_or-set_same, List.get_or_append_left, List.get_or_past, List.length-replicate, List.length-set, List.set_past}
 use Rattle.sj_base.proofs.SameIds.{cell_of_number}
 use Rattle.sj_lower.proofs.{Growing.append-partials, Growing.Grows, Growing.grows-append, Growing.grows-refl, Growing.has-row, Growing.NoneHas, Growing.row_at, Places.number-below, Taken.by_first, Taken.laid-as, Taken.New, Taken.none_isn't, Taken.Old, Taken.old_or_new, Taken.some_is, Taken.taken-as, Taken.taken-root}
+use Rattle.sj_phases.proofs.Lists.{by_option}
 
 pub copies-none : (workers : ℕ) → HaveCopies workers no_cells
 copies-none workers = record {
@@ -87,11 +88,7 @@ pub first-old : (C : Laid) (c f : Cell) → (info_at C c).partials ≡ Some f �
 first-old C c f e = ap (λ (o : Option Cell). unwrap_or o (next_cell C)) e
 
 pub by_copies : (workers : ℕ) (c : Cell) (C : Laid) (P : Laid → Type 0) → ((f : Cell) → (info_at C c).partials ≡ Some f → P C) → ((info_at C c).partials ≡ None → P (Copied workers c C)) → P (with_copies workers C c)
-by_copies workers c C P old new = by_partials (info_at C c).partials refl
-  where
-    by_partials : (o : Option Cell) → (info_at C c).partials ≡ o → P (cond (is_some o) C (Copied workers c C))
-    by_partials None e = new e
-    by_partials (Some f) e = old f e
+by_copies workers c C P old new = by_option (info_at C c).partials (λ o. P (cond (is_some o) C (Copied workers c C))) new old
 
 pub copies-prints : (w : ℕ) (cs : List Cell) (C : Laid) → (fold (with_copies w) C cs).prints ≡ C.prints
 copies-prints w [] C = refl
@@ -119,11 +116,6 @@ module _ (workers : ℕ) (c : Cell) (C : Laid) (none : (info_at C c).partials �
 
   pub copied-other : (n : ℕ) → n < length C.rows → (n ≡ c.0 → ⊥) → row_at (Copied workers c C).rows n ≡ row_at C.rows n
   copied-other n inside other = get_or_append_left first_part copies no_cell n (omega (arith, first_length, inside)) ∙ get_or-set_other C.rows c.0 n (with_partials (first_copy_in C c) (info_at C c)) no_cell other
-
-  pub copied-copy : (n w : ℕ) → n ≡ length C.rows + w → w < workers → row_at (Copied workers c C).rows n ≡ copy_info (info_at C c)
-  copied-copy n w e h =
-      get_or-append_right first_part copies (length first_part) n no_cell refl (omega (arith, first_length, e))
-      ∙ get_or-replicate workers (n - length first_part) (copy_info (info_at C c)) no_cell (omega (arith, first_length, e, h))
 
   -- a row has the partial copies that it had, or is the cell's and has the next cells
   copied-partials : (n : ℕ) (f : Cell) → (row_at (Copied workers c C).rows n).partials ≡ Some f → ((row_at C.rows n).partials ≡ Some f) ⊎ ((n ≡ c.0) × (f.0 ≡ length C.rows))
@@ -160,7 +152,7 @@ module _ (workers : ℕ) (c : Cell) (C : Laid) (none : (info_at C c).partials �
     copy = λ d f w e h. elim (copied-partials d.0 f e) [
       | inl old ↦ copied-other (f.0 + w) (omega (arith, k.inside d f old, h)) (λ same. alone d f w old h same) ∙ k.copy d f w old h
           ∙ ap copy_info (sym (copied-other d.0 (has-row C.rows d.0 f old) (λ same. none_isn't f (sym none ∙ ap (λ m. (row_at C.rows m).partials) (sym same) ∙ old))))
-      | inr new ↦ copied-copy (f.0 + w) w (omega (arith, new.1)) h ∙ ap copy_info (sym (ap (λ m. row_at (Copied workers c C).rows m) new.0 ∙ copied-own))
+      | inr new ↦ get_or-append_right first_part copies (length first_part) (f.0 + w) no_cell refl (omega (arith, first_length, new.1)) ∙ get_or-replicate workers (f.0 + w - length first_part) (copy_info (info_at C c)) no_cell (omega (arith, first_length, new.1, h)) ∙ ap copy_info (sym (ap (λ m. row_at (Copied workers c C).rows m) new.0 ∙ copied-own))
     ];
     apart = λ d e f g v w i j hv hw same. apart_by d e f g v w hv hw same (copied-partials d.0 f i) (copied-partials e.0 g j);
     beside = λ d f w q n s g place e h t hp same. elim (copied-partials d.0 f e) [

@@ -1,6 +1,6 @@
 -- A task of the program without phases leaves in its cells what the task line leaves in its children, by the roots' numbers.
 use Rattle.sj_lower.proofs.Words.{[], Access, access_of, after_task, AllByRecursion, ap, area, AreLaid, arith, Array, Bool, by_number, Cell, child_array, child_dims_at, child_rect, child_unit, clashes_at, cond, Contents, copy_of, Dims, dims_of, direct, direct_access, direct_mode, each_of, false, filter, fits, formals_of, found, get_or, has_value, held_in, init_of, is_aliased_at, is_read_only, is_redux, is_valued_child, is_written, IsPlacedAt, IsSoundTaskAt, IsWhole, Kernel, Laid, length, Line, List, list_any, Lowered, Mode, modes_fit_at, needs_value, None, not, Operand, operand_array_at, operand_cell, Option, out, outputs_among, pos, Program, R, rect_dims, Reduction, Redux, refl, results, root_at, RootState, run_task_at, same_cell, Scratch, seen_by, Some, sym, task_of, task_row, TaskLine, true, unit_of, W, worked_on, written_cells, written_of, zeros, zip, ℕ, ◌&&◌, ◌++◌, ◌+◌, ◌||◌, ◌∙◌, ◌∷◌, ◌≡◌}
-use Rattle.std.proofs.lemmas.{Bool.cond_both, Bool.false≢true, Bool.or_parts, List.Elements.recursion_from_All, List.Folds.list_any_at, List.get_or-map, List.length-map, List.length-replicate, Simd.map-map}
+use Rattle.std.proofs.lemmas.{Bool.cond_both, Bool.false_from_ne_true, Bool.false≢true, Bool.or_parts, List.Elements.recursion_from_All, List.Folds.list_any_at, List.get_or-map, List.length-map, List.length-replicate, Simd.map-map}
 use Rattle.sj_base.proofs.{Bools.and_true, Lists.cons_same, Lists.each-weaker}
 use Rattle.sj_codelet.proofs.NewArrays.{out-makes_tiles}
 use Rattle.sj_core.proofs.Combining.{unit-fills}
@@ -59,16 +59,12 @@ unread : (m : Mode) → is_written m ≡ true → is_read_only m ≡ false
 unread R e = absurd (false≢true e)
 unread m e = refl
 
-none_passes : {X : Type 0} (test : X → Bool) (xs : List X) → list_any test xs ≡ false → AllByRecursion (λ x. test x ≡ false) xs
-none_passes test [] h = tt
-none_passes test (x ∷ xs) h = let a = or_parts (test x) (list_any test xs) h in (a.0, none_passes test xs a.1)
-
 -- no child that is written stands in another operand
 other_written : (o : Operand ℕ) (os : List (Operand ℕ)) → is_written o.mode ≡ true → list_any (clashes_at o) os ≡ false → IsOther o (written_of os)
 other_written o os w h =
     each-filter (λ (p : Operand ℕ). same_child o p ≡ false) (λ (p : Operand ℕ). is_written p.mode) os
     (each-weaker (λ (p : Operand ℕ). clashes_at o p ≡ false) (λ (p : Operand ℕ). is_written p.mode ≡ true → same_child o p ≡ false)
-    (λ p apart v. sym (and_true (same_child o p)) ∙ (λ i. same_child o p && not (sym (unread o.mode w) i && is_read_only p.mode)) ∙ apart) os (none_passes (clashes_at o) os h))
+    (λ p apart v. sym (and_true (same_child o p)) ∙ (λ i. same_child o p && not (sym (unread o.mode w) i && is_read_only p.mode)) ∙ apart) os (recursion_from_All (λ (p : Operand ℕ). clashes_at o p ≡ false) os (λ k d lt. false_from_ne_true (clashes_at o (get_or os k d)) (λ e. false≢true (sym h ∙ list_any_at (clashes_at o) os k d lt e)))))
 
 abbrev AreOther : List (Operand ℕ) → Type 0
 AreOther os = Ordered (λ (o u : Operand ℕ). same_child o u ≡ false) os
@@ -134,9 +130,6 @@ seen_sized m r place = (refl, child-whole r place)
 all_seen_dims : (rs : List RootState) (os : List (Operand ℕ)) → all_dims (each_of (operand_array_at rs) os) ≡ each_of (child_dims_at rs) os
 all_seen_dims rs os = map-map (λ (a : Array). a.dims) (operand_array_at rs) os ∙ (λ i. each_of (λ (o : Operand ℕ). (seen_sized o.mode (root_at rs o.name) o.place).0 i) os)
 
-all_seen_whole : (rs : List RootState) (os : List (Operand ℕ)) → AreWhole (each_of (operand_array_at rs) os)
-all_seen_whole rs os = each-map IsWhole (operand_array_at rs) os (each-of (λ (o : Operand ℕ). IsWhole (operand_array_at rs o)) (λ o. (seen_sized o.mode (root_at rs o.name) o.place).1) os)
-
 -- the codelet of a task, with its operands in its modes
 pub record HasKernel (t : TaskLine ℕ) (rs : List RootState) : Type 0 where
   pub call : IsCall t.codelet t.args (each_of (child_dims_at rs) t.operands)
@@ -161,7 +154,7 @@ new_dims has rs t s =
 new_whole : (has : Kernel → Bool) (rs : List RootState) (t : TaskLine ℕ) → IsSoundTaskAt has rs t → AreWhole (out t.codelet t.args (each_of (operand_array_at rs) t.operands))
 new_whole has rs t s =
     let k = kernel_there has rs t s in
-    out_whole k.call.kernel t.codelet t.args (each_of (operand_array_at rs) t.operands) k.call.is (ap (fits k.call.kernel t.args) (all_seen_dims rs t.operands) ∙ k.call.fits) (all_seen_whole rs t.operands)
+    out_whole k.call.kernel t.codelet t.args (each_of (operand_array_at rs) t.operands) k.call.is (ap (fits k.call.kernel t.args) (all_seen_dims rs t.operands) ∙ k.call.fits) (each-map IsWhole (operand_array_at rs) t.operands (each-of (λ (o : Operand ℕ). IsWhole (operand_array_at rs o)) (λ o. (seen_sized o.mode (root_at rs o.name) o.place).1) t.operands))
 
 -- ---- the task as a whole
 

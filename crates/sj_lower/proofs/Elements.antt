@@ -71,10 +71,7 @@ written-same r place a hp =
     written_item r place a (rect.row + i) (rect.col + j) (omega (arith, inside.0)) (omega (arith, inside.1))
     ∙ cond-true (holds rect (rect.row + i) (rect.col + j)) (Some (element a (rect.row + i - rect.row) (rect.col + j - rect.col))) (item None r.dims.cols r.elements (rect.row + i) (rect.col + j))
     (holds-true rect (rect.row + i) (rect.col + j) ((omega arith, omega arith), (omega arith, omega arith)))
-    ∙ ap (λ n. Some (element a n (rect.col + j - rect.col))) (back rect.row i) ∙ ap (λ n. Some (element a i n)) (back rect.col j))
-  where
-    back : (m i : ℕ) → m + i - m ≡ i
-    back m i = omega arith
+    ∙ ap (λ n. Some (element a n (rect.col + j - rect.col))) (let e : rect.row + i - rect.row ≡ i = omega arith in e) ∙ ap (λ n. Some (element a i n)) (let e : rect.col + j - rect.col ≡ j = omega arith in e))
 
 pub written-array : (r : RootState) (place : ℕ × ℕ) (a : Array) → IsPlace r.parts place → a.dims ≡ rect_dims (child_rect r place) → IsWhole a → child_array (with_child place a r) place ≡ a
 written-array r place a hp dims whole =

@@ -1,10 +1,11 @@
 -- What cells hold after tasks that stand one after another in a program.
-use Rattle.sj_lower.proofs.Words.{[], after_task, AllByRecursion, ap, arith, Array, Bool, Cell, Contents, false, flat_map, gives_value, HasValueBefore, held_in, inl, inr, length, List, list_any, Lowered, out, Program, refl, same_cell, same_child_place, subst, sym, task, task_of, true, ℕ, ◌+◌, ◌||◌, ◌∙◌, ◌∷◌, ◌≡◌}
-use Rattle.std.proofs.lemmas.Bool.{cases_Bool, false_from_ne_true, false≢true, or_parts}
+use Rattle.sj_lower.proofs.Words.{[], after_task, AllByRecursion, ap, arith, Array, Bool, Cell, Contents, false, flat_map, get_or, gives_value, HasValueBefore, held_in, inl, inr, length, List, list_any, Lowered, out, Program, refl, same_cell, same_child_place, subst, sym, task, task_of, true, ℕ, ◌+◌, ◌||◌, ◌∙◌, ◌∷◌, ◌≡◌}
+use Rattle.std.proofs.lemmas.Bool.{cases_Bool, false_from_ne_true, false≢true}
 use Rattle.sj_base.proofs.{Bools.or_first, Numbers.length_more}
 use Rattle.sj_phases.proofs.Contents.{first_worker}
 use Rattle.sj_lower.proofs.Places.{place-is, place-itself}
 pub use Rattle.sj_phases.proofs.Folding.{Stand, stand-there, stand-append, after_row, after_rows, contents-rows, after_rows-append, later}
+use Rattle.std.proofs.lemmas.{List.Elements.recursion_from_All, List.Elements.All-from_recursion, List.Folds.list_any_at}
 
 -- the contents after a task of the program
 pub after_row-is : (p : Program) (n : ℕ) (contents : Contents) (l : Lowered) → task_of p (task n) ≡ l → after_task out p first_worker (task n) contents ≡ after_row p contents l
@@ -42,10 +43,8 @@ abbrev pub IsAlone : (ℕ × ℕ → Cell) → ℕ × ℕ → ℕ × ℕ → Typ
 IsAlone cell place q = same_cell (cell q) (cell place) ≡ true → q ≡ place
 
 beside_others : (cell : ℕ × ℕ → Cell) (place : ℕ × ℕ) (qs : List (ℕ × ℕ)) → list_any (same_child_place place) qs ≡ false → AllByRecursion (IsAlone cell place) qs → AllByRecursion (IsBeside cell (cell place)) qs
-beside_others cell place [] none a = tt
-beside_others cell place (q ∷ qs) none a =
-    let both = or_parts (same_child_place place q) (list_any (same_child_place place) qs) none in
-    (false_from_ne_true (same_cell (cell q) (cell place)) (λ e. false≢true (sym both.0 ∙ ap (same_child_place place) (a.0 e) ∙ place-itself place)), beside_others cell place qs both.1 a.1)
+beside_others cell place qs none a = recursion_from_All (IsBeside cell (cell place)) qs (λ k d lt. false_from_ne_true (same_cell (cell (get_or qs k d)) (cell place))
+    (λ e. false≢true (sym none ∙ list_any_at (same_child_place place) qs k d lt (ap (same_child_place place) (All-from_recursion (IsAlone cell place) qs a k d lt e) ∙ place-itself place))))
 
 module _ (p : Program) (I : Contents → Type 0) (rows : ℕ × ℕ → List Lowered) (cell : ℕ × ℕ → Cell) (x : ℕ × ℕ → Array) where
   pub blocks-others : (ps : List (ℕ × ℕ)) (k : Contents) (d : Cell) → AllByRecursion (IsBlock p I rows cell x) ps → I k → AllByRecursion (IsBeside cell d) ps → held_in p (after_rows p k (flat_map rows ps)) d ≡ held_in p k d

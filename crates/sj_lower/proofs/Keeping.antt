@@ -80,9 +80,6 @@ pub record Gives (p : Program) (C : Laid) (n : ℕ) (rs : List RootState) (c : C
   pub cell_is : c ≡ cell_of C o.name (root_at rs o.name).parts o.place
   pub given : HasValueBefore p (task_at n) c
 
-other_place : (x y : ℕ × ℕ) → same_child_place x y ≡ false → x ≡ y → ⊥
-other_place x y e same = false≢true (sym e ∙ ap (same_child_place x) (sym same) ∙ place-itself x)
-
 -- the root itself, after a child of it was put
 put_child : (p : Program) (C : Laid) (n : ℕ) (k : Contents) (rs : List RootState) (c : Cell) (o : Operand ℕ) (a : Array) → AreLaid C → Gives p C n rs c o a → HasRoot p C n k o.name (root_at rs o.name) → HasRoot p C n ((c, a) ∷ k) o.name (with_child o.place a (root_at rs o.name))
 put_child p C n k rs c o a laid g b =
@@ -98,7 +95,7 @@ put_child p C n k rs c o a laid g b =
             subst (λ (x : ℕ × ℕ). IsHeld p n ((c, a) ∷ k) (cell_of C o.name r.parts x) (child_array now x)) (place-is o.place place t)
             (subst (λ (d : Cell). IsHeld p n ((c, a) ∷ k) d (child_array now o.place)) g.cell_is (record { value = held-same p c a k ∙ sym (written-array r o.place a g.placed g.dims g.whole); given = g.given }))
         | inr t ↦
-            let apart = other_place o.place place t in
+            let apart : o.place ≡ place → ⊥ = λ same. false≢true (sym t ∙ ap (same_child_place o.place) (sym same) ∙ place-itself o.place) in
             let stays = written-other r o.place place a g.placed inside apart in
             let away = differs c (cell_of C o.name r.parts place) (λ e. apart (cells-apart C o.name o.name r.dims r.dims r.parts r.parts b.first b.first o.place place laid b.taken b.taken g.placed inside (sym g.cell_is ∙ e)).2) in
             subst (λ (x : Array). IsHeld p n ((c, a) ∷ k) (cell_of C o.name r.parts place) x) (ap (λ es. record { dims = rect_dims (child_rect r place); elements = integers_of es }) (sym stays))
@@ -106,12 +103,6 @@ put_child p C n k rs c o a laid g b =
             (b.held place inside (ap (λ es. is_child r.parts place && list_all (λ (e : Option ℤ). is_some e) es) (sym stays) ∙ v)))
       ];
     }
-
--- another root
-put_beside : (p : Program) (C : Laid) (n : ℕ) (k : Contents) (rs : List RootState) (c : Cell) (o : Operand ℕ) (a : Array) (q : ℕ) (r : RootState) → AreLaid C → Gives p C n rs c o a → HasRoot p C n k o.name (root_at rs o.name) → (q ≡ o.name → ⊥) → HasRoot p C n k q r → HasRoot p C n ((c, a) ∷ k) q r
-put_beside p C n k rs c o a q r laid g b apart h =
-    root-kept p C C n n k ((c, a) ∷ k) q r h h.taken (omega arith)
-    (λ place inside. held-other p c a k (cell_of C q r.parts place) (differs c (cell_of C q r.parts place) (λ e. apart (sym (cells-apart C o.name q (root_at rs o.name).dims r.dims (root_at rs o.name).parts r.parts b.first h.first o.place place laid b.taken h.taken g.placed inside (sym g.cell_is ∙ e)).0))))
 
 -- the roots after a change of one
 pub changed-here : (f : RootState → RootState) (m : ℕ) (rs : List RootState) → Lives rs m → root_at (change_at f m rs) m ≡ f (root_at rs m)
@@ -137,7 +128,9 @@ holds-put p C n k rs c o a laid has g =
     let b = has o.name g.lives in
     let put = with_child o.place a in
     holds-changed p C n ((c, a) ∷ k) rs (change_at put o.name rs) o.name (put (root_at rs o.name)) (changed-here put o.name rs g.lives) (λ q other. changed-beside put o.name q rs other)
-    (λ lives. put_child p C n k rs c o a laid g b) (λ q other lives. put_beside p C n k rs c o a q (root_at rs q) laid g b other (has q lives))
+    (λ lives. put_child p C n k rs c o a laid g b) (λ q other lives. (let h = has q lives in let r = root_at rs o.name in let s = root_at rs q in
+    root-kept p C C n n k ((c, a) ∷ k) q s h h.taken (omega arith) (λ place inside. held-other p c a k (cell_of C q s.parts place) (differs c (cell_of C q s.parts place)
+    (λ e. other (sym (cells-apart C o.name q r.dims s.dims r.parts s.parts b.first h.first o.place place laid b.taken h.taken g.placed inside (sym g.cell_is ∙ e)).0))))))
 
 -- ---- the arrays of a task
 
@@ -152,28 +145,20 @@ GivesAll p C n rs cell (o ∷ os) [] = ⊥
 GivesAll p C n rs cell (o ∷ os) (a ∷ xs) = Gives p C n rs (cell o) o a × IsOther o os × GivesAll p C n rs cell os xs
 
 gives-after : (p : Program) (C : Laid) (n : ℕ) (rs : List RootState) (d : Cell) (o u : Operand ℕ) (a x : Array) → Lives rs o.name → Gives p C n rs d u x → Gives p C n (change_at (with_child o.place a) o.name rs) d u x
-gives-after p C n rs d o u a x lives h = elim (cases_eq u.name o.name) as (λ _. Gives p C n (change_at (with_child o.place a) o.name rs) d u x) [
-  | inl e ↦ with_root (with_child o.place a (root_at rs u.name)) refl refl (ap (root_at (change_at (with_child o.place a) o.name rs)) e ∙ changed-here (with_child o.place a) o.name rs lives ∙ ap (λ m. with_child o.place a (root_at rs m)) (sym e))
-  | inr other ↦ with_root (root_at rs u.name) refl refl (changed-beside (with_child o.place a) o.name u.name rs other)
-]
-  where
-    with_root : (r : RootState) → r.dims ≡ (root_at rs u.name).dims → r.parts ≡ (root_at rs u.name).parts → root_at (change_at (with_child o.place a) o.name rs) u.name ≡ r → Gives p C n (change_at (with_child o.place a) o.name rs) d u x
-    with_root r ed ep now =
-        let parts : (root_at (change_at (with_child o.place a) o.name rs) u.name).parts ≡ (root_at rs u.name).parts = ap (λ (r : RootState). r.parts) now ∙ ep in
-        let dims : (root_at (change_at (with_child o.place a) o.name rs) u.name).dims ≡ (root_at rs u.name).dims = ap (λ (r : RootState). r.dims) now ∙ ed in
-        record {
-          lives = subst (λ (e : Dims). 0 < area e) (sym dims) h.lives;
-          placed = subst (λ (s : Parts). IsPlace s u.place) (sym parts) h.placed;
-          dims = h.dims ∙ (λ i. rect_dims (child (sym dims i) (sym parts i) u.place));
-          whole = h.whole;
-          cell_is = h.cell_is ∙ ap (λ s. cell_of C u.name s u.place) (sym parts);
-          given = h.given;
-        }
-
-all-after : (p : Program) (C : Laid) (n : ℕ) (rs : List RootState) (cell : Operand ℕ → Cell) (o : Operand ℕ) (a : Array) (us : List (Operand ℕ)) (xs : List Array) → Lives rs o.name → GivesAll p C n rs cell us xs → GivesAll p C n (change_at (with_child o.place a) o.name rs) cell us xs
-all-after p C n rs cell o a [] xs g all = tt
-all-after p C n rs cell o a (u ∷ us) [] g all = absurd all
-all-after p C n rs cell o a (u ∷ us) (x ∷ xs) g all = (gives-after p C n rs (cell u) o u a x g all.0, all.1, all-after p C n rs cell o a us xs g all.2)
+gives-after p C n rs d o u a x lives h =
+    let new = change_at (with_child o.place a) o.name rs in
+    let same : ((root_at new u.name).dims ≡ (root_at rs u.name).dims) × ((root_at new u.name).parts ≡ (root_at rs u.name).parts) = elim (cases_eq u.name o.name) as (λ _. ((root_at new u.name).dims ≡ (root_at rs u.name).dims) × ((root_at new u.name).parts ≡ (root_at rs u.name).parts)) [
+      | inl e ↦ (let is : root_at new u.name ≡ with_child o.place a (root_at rs u.name) = ap (root_at new) e ∙ changed-here (with_child o.place a) o.name rs lives ∙ ap (λ m. with_child o.place a (root_at rs m)) (sym e) in (ap (λ (r : RootState). r.dims) is, ap (λ (r : RootState). r.parts) is))
+      | inr other ↦ (let is = changed-beside (with_child o.place a) o.name u.name rs other in (ap (λ (r : RootState). r.dims) is, ap (λ (r : RootState). r.parts) is))
+    ] in
+    record {
+      lives = subst (λ (e : Dims). 0 < area e) (sym same.0) h.lives;
+      placed = subst (λ (s : Parts). IsPlace s u.place) (sym same.1) h.placed;
+      dims = h.dims ∙ (λ i. rect_dims (child (sym same.0 i) (sym same.1 i) u.place));
+      whole = h.whole;
+      cell_is = h.cell_is ∙ ap (λ s. cell_of C u.name s u.place) (sym same.1);
+      given = h.given;
+    }
 
 cell_apart : (p : Program) (C : Laid) (n : ℕ) (k : Contents) (rs : List RootState) (c d : Cell) (o u : Operand ℕ) (a x : Array) → AreLaid C → HaveRoots p C n k rs → Gives p C n rs c o a → Gives p C n rs d u x → same_child o u ≡ false → same_cell c d ≡ false
 cell_apart p C n k rs c d o u a x laid has g h other =
@@ -185,18 +170,21 @@ cell_apart p C n k rs c d o u a x laid has g h other =
     let same = cells-apart C o.name u.name r.dims s.dims r.parts s.parts b.first i.first o.place u.place laid b.taken i.taken g.placed h.placed (sym g.cell_is ∙ e ∙ h.cell_is) in
     false≢true (sym other ∙ and_from (nat_eq o.name u.name) (same_child_place o.place u.place) ((Decides-eqb o.name u.name).1 same.0) (ap (same_child_place o.place) (sym same.2) ∙ place-itself o.place)))
 
-not_among : (p : Program) (C : Laid) (n : ℕ) (k : Contents) (rs : List RootState) (cell : Operand ℕ → Cell) (o : Operand ℕ) (a : Array) (us : List (Operand ℕ)) (xs : List Array) → AreLaid C → HaveRoots p C n k rs → Gives p C n rs (cell o) o a → IsOther o us → GivesAll p C n rs cell us xs → NotAmong (cell o) (each_of cell us)
-not_among p C n k rs cell o a [] xs laid has g other all = tt
-not_among p C n k rs cell o a (u ∷ us) [] laid has g other all = absurd all
-not_among p C n k rs cell o a (u ∷ us) (x ∷ xs) laid has g other all =
-    (cell_apart p C n k rs (cell o) (cell u) o u a x laid has g all.0 other.0, not_among p C n k rs cell o a us xs laid has g other.1 all.2)
+-- after one is put the others are given as before, and its cell is none of theirs
+all-after : (p : Program) (C : Laid) (n : ℕ) (k : Contents) (rs : List RootState) (cell : Operand ℕ → Cell) (o : Operand ℕ) (a : Array) (us : List (Operand ℕ)) (xs : List Array) → AreLaid C → HaveRoots p C n k rs → Gives p C n rs (cell o) o a → IsOther o us → GivesAll p C n rs cell us xs
+    → GivesAll p C n (change_at (with_child o.place a) o.name rs) cell us xs × NotAmong (cell o) (each_of cell us)
+all-after p C n k rs cell o a [] xs laid has g other all = (tt, tt)
+all-after p C n k rs cell o a (u ∷ us) [] laid has g other all = absurd all
+all-after p C n k rs cell o a (u ∷ us) (x ∷ xs) laid has g other all =
+    let rest = all-after p C n k rs cell o a us xs laid has g other.1 all.2 in
+    ((gives-after p C n rs (cell u) o u a x g.lives all.0, all.1, rest.0), (cell_apart p C n k rs (cell o) (cell u) o u a x laid has g all.0 other.0, rest.1))
 
 pub holds-put_all : (p : Program) (C : Laid) (n : ℕ) (cell : Operand ℕ → Cell) (os : List (Operand ℕ)) (xs : List Array) (k : Contents) (rs : List RootState) → AreLaid C → HaveRoots p C n k rs → GivesAll p C n rs cell os xs → HaveRoots p C n (zip (each_of cell os) xs ++ k) (put_all_at os xs rs)
 holds-put_all p C n cell [] xs k rs laid has all = has
 holds-put_all p C n cell (o ∷ os) [] k rs laid has all = absurd all
 holds-put_all p C n cell (o ∷ os) (a ∷ xs) k rs laid has all =
     let here = holds-put p C n k rs (cell o) o a laid has all.0 in
-    let rest = holds-put_all p C n cell os xs ((cell o, a) ∷ k) (change_at (with_child o.place a) o.name rs) laid here (all-after p C n rs cell o a os xs all.0.lives all.2) in
-    let away = not_among p C n k rs cell o a os xs laid has all.0 all.1 all.2 in
+    let after = all-after p C n k rs cell o a os xs laid has all.0 all.1 all.2 in
+    let rest = holds-put_all p C n cell os xs ((cell o, a) ∷ k) (change_at (with_child o.place a) o.name rs) laid here after.0 in
     holds-same p C n (zip (each_of cell os) xs ++ (cell o, a) ∷ k) (zip (each_of cell (o ∷ os)) (a ∷ xs) ++ k) (put_all_at (o ∷ os) (a ∷ xs) rs)
-    (λ d. sym (held-moved p (cell o) a (each_of cell os) xs k d away)) rest
+    (λ d. sym (held-moved p (cell o) a (each_of cell os) xs k d after.1)) rest

@@ -1,17 +1,10 @@
 -- The paste tasks of a plan line make in the new plan's cells what pastes make of the old plan's children.
-use Rattle.sj_lower.proofs.Words.{[], access, all_copied, AllByRecursion, ap, area, Array, BeginOnce, begins, Bool, Cell, child, cond, Contents, copied, Copy, Dims, dims_of, false, Fits, flat_map, gives_value, held_in, is_first, IsPasteBetween, IsPlace, Line, List, Lowered, map, overlaps, own_task, Parts, Paste, paste_arguments, paste_at, paste_copy, paste_row, pasted, PasteKernel, pastes_of, pastes_to, pieces, places, pos, Program, R, rect_dims, refl, RW, same_cell, subst, sym, true, W, window, zeros, ℕ, ◌++◌, ◌||◌, ◌∙◌, ◌∷◌, ◌≡◌}
+use Rattle.sj_lower.proofs.Words.{[], access, all_copied, AllByRecursion, ap, area, Array, BeginOnce, Bool, Cell, child, cond, Contents, copied, Dims, dims_of, false, Fits, flat_map, gives_value, held_in, is_first, IsPasteBetween, IsPlace, Line, List, Lowered, map, overlaps, own_task, Parts, Paste, paste_arguments, paste_at, paste_copy, paste_row, pasted, PasteKernel, pastes_of, pastes_to, pieces, places, pos, Program, R, rect_dims, refl, RW, same_cell, subst, sym, true, W, window, zeros, ℕ, ◌++◌, ◌||◌, ◌∙◌, ◌∷◌, ◌≡◌}
 use Rattle.std.proofs.lemmas.{Bool.cond_both, Bool.false≢true, Bool.or_left, List.length-replicate, List.map-append}
 use Rattle.sj_plan.proofs.{Copying.copies_to-begin, Copying.copy_between-within, Lists.each-filter, Lists.each-map, Lists.each-places, Repartitioning.pastes_to-copies, Repartitioning.pastes_to-make, Splitting.part_len-positive, Tiling.children_of-order, Tiling.children_of-tiling}
 use Rattle.sj_lower.proofs.{Contents.held-other, Contents.held-same, Contents.same_cell-itself, Elements.child-within, Filling.AreFilled, Filling.blocks-filled, Filling.HaveOwn, Folding.after_row, Folding.after_rows, Folding.Fills, Folding.one_gives}
 
 -- ---- one paste
-
--- a paste puts what a copy makes into the new child's cell
-pasted_by : (p : Program) (k : Contents) (old new : ℕ × ℕ → Cell) (line : Line) (x : Paste) (b : Bool)
-    → after_row p k (own_task PasteKernel (paste_arguments x) (access R (old x.from) ∷ access (cond b W RW) (new x.to) ∷ []) line)
-    ≡ (new x.to, pasted (held_in p k (old x.from)) x.at_from (record { rows = x.rows; cols = x.cols }) (cond b (zeros (dims_of p (new x.to))) (held_in p k (new x.to))) x.at_to) ∷ k
-pasted_by p k old new line x true = refl
-pasted_by p k old new line x false = refl
 
 pub paste-gives : (old new : ℕ × ℕ → Cell) (line : Line) (x : Paste) → gives_value (paste_row old new line x) (new x.to) ≡ true
 paste-gives old new line x =
@@ -45,9 +38,10 @@ made_by : (p : Program) (d : Dims) (s : Parts) (old new : ℕ × ℕ → Cell) (
 made_by p d s old new a line to k w x dims here holds none goes =
     let there : (new x.to) ≡ new to = ap new goes.1 in
     let row : after_row p k (paste_row old new line x) ≡ (new to, copied (windows_of d s a) w (paste_copy x)) ∷ k =
-    pasted_by p k old new line x (is_first x)
+    elim (is_first x) as (λ b. after_row p k (own_task PasteKernel (paste_arguments x) (access R (old x.from) ∷ access (cond b W RW) (new x.to) ∷ []) line) ≡ (new x.to, pasted (held_in p k (old x.from)) x.at_from (record { rows = x.rows; cols = x.cols }) (cond b (zeros (dims_of p (new x.to))) (held_in p k (new x.to))) x.at_to) ∷ k) [ true ↦ refl | false ↦ refl ]
     ∙ (λ i. (there i, pasted (holds x.from goes.0 i) x.at_from (record { rows = x.rows; cols = x.cols }) (cond (is_first x) (zeros (dims_of p (there i))) (held_in p k (there i))) x.at_to) ∷ k)
-    ∙ ap (λ (y : Array). (new to, pasted (window a (child d s x.from)) x.at_from (record { rows = x.rows; cols = x.cols }) y x.at_to) ∷ k) (by_first (is_first x) here) in
+    ∙ ap (λ (y : Array). (new to, pasted (window a (child d s x.from)) x.at_from (record { rows = x.rows; cols = x.cols }) y x.at_to) ∷ k) (cond_both {A = Array} (is_first x) (zeros w.dims) w (λ (y : Array). cond (is_first x) (zeros (dims_of p (new to))) (held_in p k (new to)) ≡ y)
+    (λ e. ap (λ b. cond b (zeros (dims_of p (new to))) (held_in p k (new to))) e ∙ ap zeros (sym dims)) (λ e. ap (λ b. cond b (zeros (dims_of p (new to))) (held_in p k (new to))) e ∙ here e)) in
     record {
       fills = record {
         value = ap (λ (n : Contents). held_in p n (new to)) row ∙ held-same p (new to) (copied (windows_of d s a) w (paste_copy x)) k;
@@ -55,13 +49,6 @@ made_by p d s old new a line to k w x dims here holds none goes =
       };
       holds = λ from inside. ap (λ (n : Contents). held_in p n (old from)) row ∙ held-other p (new to) (copied (windows_of d s a) w (paste_copy x)) k (old from) (none from inside) ∙ holds from inside;
     }
-  where
-    by_first : (b : Bool) → (b ≡ false → held_in p k (new to) ≡ w) → cond b (zeros (dims_of p (new to))) (held_in p k (new to)) ≡ cond b (zeros w.dims) w
-    by_first true h = ap zeros (sym dims)
-    by_first false h = h refl
-
-copied_dims : (old : ℕ × ℕ → Array) (w : Array) (c : Copy (ℕ × ℕ)) → (copied old w c).dims ≡ w.dims
-copied_dims old w c = cond_both (begins c) (zeros w.dims) w (λ (y : Array). y.dims ≡ w.dims) (λ e. refl) (λ e. refl)
 
 -- the first of the pastes, if there is one, begins its child
 abbrev first_begins : List Paste → Bool
@@ -79,7 +66,7 @@ all_made p d s old new a line to [] k w dims here holds none go = record { fills
 all_made p d s old new a line to (x ∷ xs) k w dims here holds none go =
     let one = made_by p d s old new a line to k w x dims here holds none go.0 in
     let made = copied (windows_of d s a) w (paste_copy x) in
-    let rest = all_made p d s old new a line to xs (after_row p k (paste_row old new line x)) made (copied_dims (windows_of d s a) w (paste_copy x) ∙ dims) (λ e. one.fills.value) one.holds none go.1 in
+    let rest = all_made p d s old new a line to xs (after_row p k (paste_row old new line x)) made (cond_both (is_first x) (zeros w.dims) w (λ (y : Array). y.dims ≡ w.dims) (λ e. refl) (λ e. refl) ∙ dims) (λ e. one.fills.value) one.holds none go.1 in
     record { fills = record { value = rest.fills.value; others = λ c beside. rest.fills.others c beside ∙ one.fills.others c beside }; holds = rest.holds }
 
 -- what holds of the paste of each old child that overlaps holds of each paste to the new one

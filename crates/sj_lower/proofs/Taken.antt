@@ -5,6 +5,7 @@ use Rattle.std.proofs.lemmas.{Bool.and_parts, Bool.cases_eq, Bool.cases_lt, Bool
 use Rattle.sj_plan.proofs.{Lists.each-map, Lists.each-places, Places.number-apart, Splitting.part_end}
 use Rattle.sj_lower.proofs.Places.{length-places, number-below, parts-are, parts-itself, places-at}
 pub use Rattle.std.proofs.lemmas.Option.{same_Some as some_is, none-some as none_isn't}
+use Rattle.sj_phases.proofs.Lists.{by_option}
 
 -- where a root has the handle of another, it has taken its plans
 pub taken-as : (C D : Laid) (n m : ℕ) (d : Dims) (s : Parts) (f : ℕ) → handle_at D m ≡ handle_at C n → HasTakenPlan C n d s f → HasTakenPlan D m d s f
@@ -163,24 +164,17 @@ laid_new C n p there fit a = record {
     news : List CellInfo
     news = each_of (child_cell (a_root n) h.dims p) (places p)
 
-    equal : (f g n x y : ℕ) → f ≡ n → g ≡ n → f + x ≡ g + y → x ≡ y
-    equal f g n x y ef eg e = omega arith
-
     apart_by : (m u : ℕ) (d e : Dims) (s t : Parts) (f g : ℕ) (place other : ℕ × ℕ) → IsPlace s place → IsPlace t other → f + number s place ≡ g + number t other → IsOldOrNew C n p m d s f → IsOldOrNew C n p u e t g → (m ≡ u) × (s ≡ t) × (place ≡ other)
     apart_by m u d e s t f g place other hp ho same (Old o) (Old w) = a.apart m u d e s t f g place other o w hp ho same
     apart_by m u d e s t f g place other hp ho same (Old o) (New eq ep ed ef) = absurd (omega (arith, ef, same, a.inside m d s f o, number-below s place hp))
     apart_by m u d e s t f g place other hp ho same (New eq ep ed ef) (Old w) = absurd (omega (arith, ef, same, a.inside u e t g w, number-below t other ho))
     apart_by m u d e s t f g place other hp ho same (New eq ep ed ef) (New eq2 ep2 ed2 ef2) =
         let st : s ≡ t = sym ep ∙ ep2 in
-        (sym eq ∙ eq2, st, number-apart s place other hp (subst (λ (x : Parts). IsPlace x other) (sym st) ho) (equal f g (length C.rows) (number s place) (number t other) ef ef2 same ∙ ap (λ (x : Parts). number x other) (sym st)))
+        (sym eq ∙ eq2, st, number-apart s place other hp (subst (λ (x : Parts). IsPlace x other) (sym st) ho) ((let e : number s place ≡ number t other = omega (arith, ef, ef2, same) in e) ∙ ap (λ (x : Parts). number x other) (sym st)))
 
 -- by whether the plan was taken before
 pub by_first : (C : Laid) (n : ℕ) (p : Parts) (P : Laid → Type 0) → ((f : ℕ) → (handle_at C n).first p ≡ Some f → P C) → ((handle_at C n).first p ≡ None → P (with_new_plan n p C)) → P (take n p C)
-by_first C n p P old new = by_test ((handle_at C n).first p) refl
-  where
-    by_test : (o : Option ℕ) → (handle_at C n).first p ≡ o → P (cond (is_some o) C (with_new_plan n p C))
-    by_test None e = new e
-    by_test (Some f) e = old f e
+by_first C n p P old new = by_option ((handle_at C n).first p) (λ o. P (cond (is_some o) C (with_new_plan n p C))) new old
 
 pub laid-take : (C : Laid) (n : ℕ) (p : Parts) → n < length C.handles → Fits p (handle_at C n).dims → AreLaid C → AreLaid (take n p C)
 laid-take C n p there fit a = by_first C n p AreLaid (λ f e. a) (λ e. laid_new C n p there fit a)
@@ -209,10 +203,6 @@ take-takes C n p lt =
         first = ap (λ (h : Handle). h.first p) (took-there C n p lt) ∙ ap (λ b. cond b (Some (length C.rows)) ((handle_at C n).first p)) (parts-itself p);
       },
     ))
-
--- a root's dimensions stay
-pub take-dims : (C : Laid) (n : ℕ) (p : Parts) → n < length C.handles → (m : ℕ) → (handle_at (take n p C) m).dims ≡ (handle_at C m).dims
-take-dims C n p lt m = by_first C n p (λ (D : Laid). (handle_at D m).dims ≡ (handle_at C m).dims) (λ f e. refl) (λ e. took-dims C n p lt m)
 
 pub take-handles : (C : Laid) (n : ℕ) (p : Parts) → length (take n p C).handles ≡ length C.handles
 take-handles C n p = by_first C n p (λ (D : Laid). length D.handles ≡ length C.handles) (λ f e. refl) (λ e. length-set C.handles n (Took C n p))

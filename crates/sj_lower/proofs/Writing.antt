@@ -5,6 +5,7 @@ use Rattle.sj_codelet.proofs.{NewArrays.new_arrays-whole, Table.new_arrays-dims}
 pub use Rattle.sj_codelet.proofs.NewArrays.{AreWhole}
 pub use Rattle.sj_codelet.proofs.Table.{each_dims as all_dims}
 pub use Rattle.sj_meaning.proofs.Giving.{written_as as writes_output}
+use Rattle.sj_phases.proofs.Lists.{by_option}
 
 -- ---- new arrays
 
@@ -14,11 +15,7 @@ outputs-written f [] [] e l = refl
 outputs-written f (g ∷ fs) (o ∷ os) e l =
     let m = and_parts (mode_fits g o.mode) (modes_fit_at fs os) e in
     let rest = outputs-written f fs os m.1 (omega (arith, l)) in
-    (λ i. cond (sym (writes_output g o.mode m.0) i) (f o ∷ rest i) (rest i)) ∙ through (is_written o.mode) (filter (λ (o : Operand ℕ). is_written o.mode) os)
-  where
-    through : (b : Bool) (us : List (Operand ℕ)) → cond b (f o ∷ map f us) (map f us) ≡ map f (cond b (o ∷ us) us)
-    through true us = refl
-    through false us = refl
+    (λ i. cond (sym (writes_output g o.mode m.0) i) (f o ∷ rest i) (rest i)) ∙ (let us = filter (λ (o : Operand ℕ). is_written o.mode) os in elim (is_written o.mode) as (λ b. cond b (f o ∷ map f us) (map f us) ≡ map f (cond b (o ∷ us) us)) [ true ↦ refl | false ↦ refl ])
 outputs-written f fs os e l = absurd (omega (arith, l))
 
 -- ---- calls
@@ -55,14 +52,10 @@ pub record IsCall (id : Codelet) (args : List ℤ) (ds : List Dims) : Type 0 whe
   pub fits : fits kernel args ds ≡ true
   pub formals : formals_in id ≡ formals_of kernel
 
-by_id : (has : Kernel → Bool) (id : Codelet) (args : List ℤ) (ds : List Dims) (o : Option Kernel) → kernel_of id ≡ o → (elim o as (λ _. Bool) [ None ↦ false | Some k ↦ has k && fits k args ds ]) ≡ true → IsCall id args ds
-by_id has id args ds None e h = absurd (cc)
-by_id has id args ds (Some k) e h = record {
+pub call_of : (has : Kernel → Bool) (id : Codelet) (args : List ℤ) (ds : List Dims) → fits_in has id args ds ≡ true → IsCall id args ds
+call_of has id args ds h = by_option (kernel_of id) (λ o. kernel_of id ≡ o → (elim o as (λ _. Bool) [ None ↦ false | Some k ↦ has k && fits k args ds ]) ≡ true → IsCall id args ds) (λ n e h. absurd (cc)) (λ k s e h. record {
   kernel = k;
   is = e;
   fits = (and_parts (has k) (fits k args ds) h).1;
   formals = ap (λ (o : Option Kernel). elim o as (λ _. List Formal) [ None ↦ [] | Some j ↦ formals_of j ]) e;
-}
-
-pub call_of : (has : Kernel → Bool) (id : Codelet) (args : List ℤ) (ds : List Dims) → fits_in has id args ds ≡ true → IsCall id args ds
-call_of has id args ds h = by_id has id args ds (kernel_of id) refl h
+}) refl h

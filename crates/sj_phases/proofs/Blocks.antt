@@ -16,9 +16,6 @@ goes-trans ts us vs (ls, e) (ms, f) = (ls ++ ms, f ∙ ap (λ xs. xs ++ ms) e �
 pub goes-itself : (ts : List Lowered) → GoesOn ts ts
 goes-itself ts = ([], sym (append-nil ts))
 
-pub begins-less : (all ts us : List Lowered) → GoesOn ts us → Begins all us → Begins all ts
-begins-less all ts us g b = goes-trans ts us all g b
-
 -- what holds where a cell's phase is closed, whether or not one is open
 pub by_closed : (w : ℕ) (E : Expansion) (c : Cell) (P : Expansion → Type 0) → (E.phase c ≡ None → P E) → ((f : OpenPhase) → E.phase c ≡ Some f → P (phase_turned (combine_rows f c w) c None E)) → P (closed w E c)
 by_closed w E c P = by_option (E.phase c) (λ o. P (elim o as (λ _. Expansion) [ None ↦ E | Some f ↦ phase_turned (combine_rows f c w) c None E ]))
@@ -64,9 +61,6 @@ opening-of p tasks was (x ∷ os) o h c = elim (cons-cases x os o c) [
 -- ---- what blocks need, said of another program of the same cells
 
 module _ (p q : Program) (twins : AreTwins p q) where
-  task-twin : (was : OpenReductions) (l : Lowered) → IsOrderlyTask q was l → IsOrderlyTask p was l
-  task-twin was l h = record { plain = λ k d lt. twin-plain p q twins (get_or l.accesses k d).cell (h.plain k d lt); shut = h.shut; contributes = h.contributes }
-
   openings-twin : (tasks : List Lowered) (was : OpenReductions) (os : List PhaseOpening) → AreOpenings q tasks was os → AreOpenings p tasks was os
   openings-twin tasks was [] h = tt
   openings-twin tasks was (o ∷ os) h = (record { used = h.0.used; valued = h.0.valued; copies = ap (λ (i : CellInfo). i.partials) (twin-info p q twins o.cell) ∙ h.0.copies }, openings-twin tasks (with_opening was o) os h.1)
@@ -74,7 +68,7 @@ module _ (p q : Program) (twins : AreTwins p q) where
   pub orderly-twin : (was : OpenReductions) (bs : List TaskBlock) → AreOrderly q was bs → AreOrderly p was bs
   orderly-twin was [] h = tt
   orderly-twin was (b ∷ bs) h = (
-    record { tasks = λ k d lt. task-twin (open_at was b) (get_or b.tasks k d) (h.0.tasks k d lt); openings = openings-twin b.tasks (shut_by was b) b.opens h.0.openings; delivered = h.0.delivered },
+    record { tasks = λ k d lt. (let t = h.0.tasks k d lt in record { plain = λ i e l. twin-plain p q twins (get_or (get_or b.tasks k d).accesses i e).cell (t.plain i e l); shut = t.shut; contributes = t.contributes }); openings = openings-twin b.tasks (shut_by was b) b.opens h.0.openings; delivered = h.0.delivered },
     orderly-twin (open_at was b) bs h.1,
   )
 
@@ -89,10 +83,6 @@ stand-at p n (x ∷ ls) l (suc i) s lt e =
     (ap (λ k. task_of p (task k)) (one_more n i) ∙ rest.0, omega (arith, rest.1))
 
 module _ (p q : Program) (twins : AreTwins p q) (proper : Proper q) where
-  fine-closes : (cs : List Cell) (E : Expansion) (us : List Lowered) (was : OpenReductions) → Begins p.tasks (fold (closed p.workers) E cs).tasks → Fine p q E.tasks E.phase us [] was → Fine p q (fold (closed p.workers) E cs).tasks (fold (closed p.workers) E cs).phase us [] (fold with_shut was cs)
-  fine-closes cs E us was b fine = fold_along (closed p.workers) with_shut (λ (F : Expansion) (o : OpenReductions). Begins p.tasks F.tasks → Fine p q F.tasks F.phase us [] o)
-      (λ F o c before here. fine-close p q twins proper F us o c here (before (begins-less p.tasks F.tasks (closed p.workers F c).tasks (goes-closed p.workers F c) here))) E was cs (λ here. fine) b
-
   -- what opening a phase needs of the tasks to come
   abbrev CanOpen : PhaseOpening → Type 0
   CanOpen o = IsPlain p o.cell × (IsTrusted p → IsReduction out o.by)
@@ -106,7 +96,7 @@ module _ (p q : Program) (twins : AreTwins p q) (proper : Proper q) where
       let goes : GoesOn (us ++ first_units o line) vs = (rest, e ∙ sym (append_assoc us (first_units o line) rest)) in
       let c = can o (first-has o os) in
       fine-opens os next (us ++ first_units o line) vs ls (with_opening was o) line goes.1 h.1 (λ x k. can x (more-has o os x k)) b d
-      (fine-open p q twins proper E us ls was o line h.0 c.0 c.1 (begins-less p.tasks next.tasks (fold (opened p.workers line) next os).tasks (goes-opens p.workers line os next) b) (begins-less q.tasks (us ++ first_units o line) vs goes d) fine)
+      (fine-open p q twins proper E us ls was o line h.0 c.0 c.1 (goes-trans next.tasks (fold (opened p.workers line) next os).tasks p.tasks (goes-opens p.workers line os next) b) (goes-trans (us ++ first_units o line) vs q.tasks goes d) fine)
 
   -- after the first of a block's own tasks
   fine-part : (xs ys ts ts' us us' : List Lowered) (phases : Phases) (was : OpenReductions) → ts' ≡ ts ++ xs → us' ≡ us ++ map direct xs → ((l : Lowered) → Contains (xs ++ ys) l → IsOrderlyTask p was l) → Begins p.tasks ts' → Begins q.tasks us' → Fine p q ts phases us (xs ++ ys) was → Fine p q ts' phases us' ys was
@@ -115,7 +105,7 @@ module _ (p q : Program) (twins : AreTwins p q) (proper : Proper q) where
       let goes : GoesOn (ts ++ x ∷ []) ts' = (xs, e ∙ sym (append_assoc ts (x ∷ []) xs)) in
       let plain_goes : GoesOn (us ++ direct x ∷ []) us' = (map direct xs, f ∙ sym (append_assoc us (direct x ∷ []) (map direct xs))) in
       fine-part xs ys (ts ++ x ∷ []) ts' (us ++ direct x ∷ []) us' phases was goes.1 plain_goes.1 (λ l h. orderly l (more-has x (xs ++ ys) l h)) b d
-      (fine-own p q twins proper ts us x (xs ++ ys) phases was (orderly x (first-has x (xs ++ ys))) (begins-less p.tasks (ts ++ x ∷ []) ts' goes b) (begins-less q.tasks (us ++ direct x ∷ []) us' plain_goes d) fine)
+      (fine-own p q twins proper ts us x (xs ++ ys) phases was (orderly x (first-has x (xs ++ ys))) (goes-trans (ts ++ x ∷ []) ts' p.tasks goes b) (goes-trans (us ++ direct x ∷ []) us' q.tasks plain_goes d) fine)
 
   module _ (E : Expansion) (us : List Lowered) (was : OpenReductions) (b : TaskBlock) (orderly : IsOrderly p was b) (begins : Begins p.tasks (expanded p.workers E b).tasks) (plain_begins : Begins q.tasks (us ++ plain_rows b)) (fine : Fine p q E.tasks E.phase us [] was) where
     abbrev pub Ready : Expansion
@@ -145,18 +135,19 @@ module _ (p q : Program) (twins : AreTwins p q) (proper : Proper q) where
     -- before the block's own tasks
     pub fine-ready : Fine p q Ready.tasks Ready.phase (us ++ units b) b.tasks (open_at was b)
     fine-ready =
-        let ready_begins = begins-less p.tasks Ready.tasks (expanded p.workers E b).tasks (b.tasks, refl) begins in
+        let ready_begins = goes-trans Ready.tasks (expanded p.workers E b).tasks p.tasks (b.tasks, refl) begins in
         let left = fold (closed p.workers) E b.closes in
-        let shut = fine-closes b.closes E us was (begins-less p.tasks left.tasks Ready.tasks (goes-opens p.workers b.line b.opens left) ready_begins) fine in
-        fine-opens b.opens left us (us ++ units b) b.tasks (shut_by was b) b.line refl orderly.openings can ready_begins (begins-less q.tasks (us ++ units b) (us ++ plain_rows b) (map direct b.tasks, sym split) plain_begins)
+        let shut = fold_along (closed p.workers) with_shut (λ (F : Expansion) (o : OpenReductions). Begins p.tasks F.tasks → Fine p q F.tasks F.phase us [] o)
+        (λ F o c before here. fine-close p q twins proper F us o c here (before (goes-trans F.tasks (closed p.workers F c).tasks p.tasks (goes-closed p.workers F c) here))) E was b.closes (λ here. fine) (goes-trans left.tasks Ready.tasks p.tasks (goes-opens p.workers b.line b.opens left) ready_begins) in
+        fine-opens b.opens left us (us ++ units b) b.tasks (shut_by was b) b.line refl orderly.openings can ready_begins (goes-trans (us ++ units b) (us ++ plain_rows b) q.tasks (map direct b.tasks, sym split) plain_begins)
         (record { good = shut.good; logged = log-come p (length left.tasks) left.phase b.tasks shut.logged; values = shut.values; owned = shut.owned; linked = shut.linked; holds = shut.holds })
 
     -- among them
     pub fine-among : (xs ys : List Lowered) → b.tasks ≡ xs ++ ys → Fine p q (Ready.tasks ++ xs) Ready.phase ((us ++ units b) ++ map direct xs) ys (open_at was b)
     fine-among xs ys e =
         fine-part xs ys Ready.tasks (Ready.tasks ++ xs) (us ++ units b) ((us ++ units b) ++ map direct xs) Ready.phase (open_at was b) refl refl (λ l h. its_task l (subst (λ (zs : List Lowered). Contains zs l) (sym e) h))
-        (begins-less p.tasks (Ready.tasks ++ xs) (Ready.tasks ++ b.tasks) (ys, ap (λ zs. Ready.tasks ++ zs) e ∙ sym (append_assoc Ready.tasks xs ys)) begins)
-        (begins-less q.tasks ((us ++ units b) ++ map direct xs) (us ++ plain_rows b) (map direct ys, sym split ∙ ap (λ zs. (us ++ units b) ++ map direct zs) e ∙ ap (λ zs. (us ++ units b) ++ zs) (map-append direct xs ys) ∙ sym (append_assoc (us ++ units b) (map direct xs) (map direct ys))) plain_begins)
+        (goes-trans (Ready.tasks ++ xs) (Ready.tasks ++ b.tasks) p.tasks (ys, ap (λ zs. Ready.tasks ++ zs) e ∙ sym (append_assoc Ready.tasks xs ys)) begins)
+        (goes-trans ((us ++ units b) ++ map direct xs) (us ++ plain_rows b) q.tasks (map direct ys, sym split ∙ ap (λ zs. (us ++ units b) ++ map direct zs) e ∙ ap (λ zs. (us ++ units b) ++ zs) (map-append direct xs ys) ∙ sym (append_assoc (us ++ units b) (map direct xs) (map direct ys))) plain_begins)
         (subst (λ (zs : List Lowered). Fine p q Ready.tasks Ready.phase (us ++ units b) zs (open_at was b)) e fine-ready)
 
     pub fine-block : Fine p q (expanded p.workers E b).tasks (expanded p.workers E b).phase (us ++ plain_rows b) [] (open_at was b)
@@ -184,5 +175,5 @@ along-blocks p w P step (b ∷ bs) E Q was h start = along-blocks p w P step bs 
 pub begun-blocks : (p q : Program) (P : Expansion → Plainly → OpenReductions → Type 0) → ((b : TaskBlock) (E : Expansion) (Q : Plainly) (was : OpenReductions) → IsOrderly p was b → Begins p.tasks (expanded p.workers E b).tasks → Begins q.tasks (Q.tasks ++ plain_rows b) → P E Q was → P (expanded p.workers E b) (plain_next Q b) (open_at was b))
     → (bs : List TaskBlock) (E : Expansion) (Q : Plainly) (was : OpenReductions) → AreOrderly p was bs → Begins p.tasks (expand p.workers E bs).tasks → Begins q.tasks (fold plain_next Q bs).tasks → P E Q was → P (expand p.workers E bs) (fold plain_next Q bs) (open_after was bs)
 begun-blocks p q P step bs E Q was h b d start = along-blocks p p.workers (λ F R o. Begins p.tasks F.tasks → Begins q.tasks R.tasks → P F R o)
-    (λ x F R o orderly before here plain_here. step x F R o orderly here plain_here (before (begins-less p.tasks F.tasks (expanded p.workers F x).tasks (goes-expanded p.workers F x) here) (begins-less q.tasks R.tasks (R.tasks ++ plain_rows x) (plain_rows x, refl) plain_here)))
+    (λ x F R o orderly before here plain_here. step x F R o orderly here plain_here (before (goes-trans F.tasks (expanded p.workers F x).tasks p.tasks (goes-expanded p.workers F x) here) (goes-trans R.tasks (R.tasks ++ plain_rows x) q.tasks (plain_rows x, refl) plain_here)))
     bs E Q was h (λ here plain_here. start) b d

@@ -3,7 +3,7 @@ use Rattle.sj_phases.proofs.Words.{[], Access, access, All, ap, arith, Bool, Cel
 use Rattle.std.proofs.lemmas.{Bool.cases_lt, List.Elements.All-cons, List.FromFn.get_or-range_with_len, List.FromFn.length-range_with_len}
 use Rattle.sj_codelet.proofs.Table.{kernel_of-codelet_of}
 use Rattle.sj_core.proofs.Readiness.{Contains-filter, Contains-from_filter, filter-Contains}
-use Rattle.sj_phases.proofs.{Combined.Phases, Folding.Stand, Lists.all-from, Lists.all-range, Lists.first-has, Lists.in-range, Lists.more-has, Lists.range-has, Lists.two-cases, Logging.AreApart, Logging.CellInit, Logging.CopyInit, Logging.Gift, Logging.gives-names, Logging.gives_to, Logging.InClosed, Logging.IsInner, Logging.IsLogged, Logging.log-turned, Logging.Logged, Logging.names-gives, Logging.none_isn't, Logging.row-at, Logging.row-of, Logging.used-now, Owning.copy-is, Owning.IsOwn}
+use Rattle.sj_phases.proofs.{Combined.Phases, Folding.Stand, Lists.all-from, Lists.all-range, Lists.first-has, Lists.in-range, Lists.more-has, Lists.range-has, Lists.two-cases, Logging.AreApart, Logging.CellInit, Logging.CopyInit, Logging.Gift, Logging.gives-names, Logging.gives_to, Logging.InClosed, Logging.IsInner, Logging.log-turned, Logging.Logged, Logging.names-gives, Logging.none_isn't, Logging.row-at, Logging.row-of, Logging.used-now, Owning.copy-is, Owning.IsOwn}
 
 module _ (p : Program) (n : ℕ) (phases : Phases) (c : Cell) (f : OpenPhase) (is : phases c ≡ Some f) (stand : Stand p n (combine_rows f c p.workers)) (own : IsOwn p c f.copies) (apart : AreApart p)
     (others : (d : Cell) (g : OpenPhase) → phases d ≡ Some g → IsPlain p d) (log : Logged p n phases []) where
@@ -12,9 +12,6 @@ module _ (p : Program) (n : ℕ) (phases : Phases) (c : Cell) (f : OpenPhase) (i
 
   abbrev from : ℕ
   from = start + p.workers
-
-  mine : IsLogged p n c f.by f.copies start
-  mine = log.opened c f is
 
   abbrev gives : ℕ → Bool
   gives m = gives_to c (task_number p m)
@@ -25,19 +22,19 @@ module _ (p : Program) (n : ℕ) (phases : Phases) (c : Cell) (f : OpenPhase) (i
   gift-of : (m : ℕ) → Contains done.contributions m → (from ≤ m) × (m < n) × names_as Redux c (task_number p m)
   gift-of m h =
       let r = in-range from (n - from) m (Contains-from_filter gives (range_with_len from (n - from)) m h) in
-      (r.0, omega (arith, r.1, mine.begun), gives-names c (task_number p m) (filter-Contains gives (range_with_len from (n - from)) m h))
+      (r.0, omega (arith, r.1, (log.opened c f is).begun), gives-names c (task_number p m) (filter-Contains gives (range_with_len from (n - from)) m h))
 
   has-gift : (m : ℕ) → from ≤ m → m < n → names_as Redux c (task_number p m) → Contains done.contributions m
-  has-gift m lo hi h = Contains-filter gives (range_with_len from (n - from)) m (names-gives c (task_number p m) h) (range-has from (n - from) m lo (omega (arith, hi, mine.begun)))
+  has-gift m lo hi h = Contains-filter gives (range_with_len from (n - from)) m (names-gives c (task_number p m) h) (range-has from (n - from) m lo (omega (arith, hi, (log.opened c f is).begun)))
 
   is_phase : IsPhase p done
   is_phase = record {
     inits_by_worker = length-range_with_len start p.workers;
     combines_by_worker = length-range_with_len n p.workers;
     contributed = (let u = used-now p n phases log c f is in let g = has-gift u.0 u.1 u.2 u.3 in omega (arith, g.1));
-    inits = λ w h. subst₂ (λ (q : Cell) (m : ℕ). IsInit f.by q (task_number p m)) (sym (copy-is p c f.copies w own.partials)) (sym (get_or-range_with_len start p.workers w.0 0 h)) (mine.init w.0 h);
+    inits = λ w h. subst₂ (λ (q : Cell) (m : ℕ). IsInit f.by q (task_number p m)) (sym (copy-is p c f.copies w own.partials)) (sym (get_or-range_with_len start p.workers w.0 0 h)) ((log.opened c f is).init w.0 h);
     contributions = all-from (λ m. IsContribution f.by c (task_number p m)) done.contributions (λ m h. (let g = gift-of m h in
-        elim (mine.alone m (access Redux c) (omega (arith, g.0)) g.1 (Contains-filter (λ (b : Access). not (is_scratch b.mode)) (task_number p m).accesses (access Redux c) refl g.2) (inl refl)) [
+        elim ((log.opened c f is).alone m (access Redux c) (omega (arith, g.0)) g.1 (Contains-filter (λ (b : Access). not (is_scratch b.mode)) (task_number p m).accesses (access Redux c) refl g.2) (inl refl)) [
           | CopyInit early ↦ absurd (omega (arith, early, g.0))
           | Gift late gift ↦ gift
           | CellInit init before ↦ absurd (omega (arith, before m g.0 g.2))
@@ -54,7 +51,7 @@ module _ (p : Program) (n : ℕ) (phases : Phases) (c : Cell) (f : OpenPhase) (i
         let lo : start ≤ m = omega (arith, first.0, is_open.begun.2) in
         elim (cases_lt m n) [
           | inr late ↦ inl (inr (inr (range-has n p.workers m late (omega (arith, last.1, is_open.unfinished.2)))))
-          | inl early ↦ elim (mine.alone m a lo early h touches) [
+          | inl early ↦ elim ((log.opened c f is).alone m a lo early h touches) [
             | CopyInit begins ↦ inl (inl (range-has start p.workers m lo begins))
             | Gift late gift ↦ inl (inr (inl (has-gift m late early gift.operand)))
             | CellInit init before ↦ inr (record { init = init; before = all-from (λ j. m < j) done.contributions (λ j g. before j (gift-of j g).0 (gift-of j g).2) })

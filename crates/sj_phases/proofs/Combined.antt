@@ -36,17 +36,13 @@ denoted-open p phases k c f e = ap (λ (o : Option OpenPhase). elim o as (λ _. 
 pub all_workers-below : (p : Program) (w : ℕ) → Contains (all_workers p) w → w < p.workers
 all_workers-below p w h = omega (arith, (in-range 0 p.workers w h).1)
 
--- the partial copies are the same
-abbrev pub SameCopies : Program → Contents → Contents → OpenPhase → Type 0
-SameCopies p k new f = (w : ℕ) → w < p.workers → held_in p new (copy_at f.copies w) ≡ held_in p k (copy_at f.copies w)
-
 pub with_all-same : (p : Program) (k new : Contents) (f : OpenPhase) (ws : List ℕ) (v : Array) → ((w : ℕ) → Contains ws w → held_in p new (copy_at f.copies w) ≡ held_in p k (copy_at f.copies w)) → with_all p new f ws v ≡ with_all p k f ws v
 with_all-same p k new f [] v same = refl
 with_all-same p k new f (w ∷ ws) v same =
     ap (λ (x : Array). with_all p new f ws (combined out f.by x v)) (same w (first-has w ws)) ∙ with_all-same p k new f ws (with_copy p k f v w) (λ u h. same u (more-has w ws u h))
 
 -- what the cell denotes is the same where it and its partial copies hold the same
-pub denoted-same : (p : Program) (phases after : Phases) (k new : Contents) (c : Cell) → after c ≡ phases c → held_in p new c ≡ held_in p k c → ((f : OpenPhase) → phases c ≡ Some f → SameCopies p k new f) → denoted p after new c ≡ denoted p phases k c
+pub denoted-same : (p : Program) (phases after : Phases) (k new : Contents) (c : Cell) → after c ≡ phases c → held_in p new c ≡ held_in p k c → ((f : OpenPhase) → phases c ≡ Some f → (w : ℕ) → w < p.workers → held_in p new (copy_at f.copies w) ≡ held_in p k (copy_at f.copies w)) → denoted p after new c ≡ denoted p phases k c
 denoted-same p phases after k new c e same copies = by_option (phases c) (λ o. denoted p after new c ≡ denoted p phases k c)
     (λ g. denoted-closed p after new c (e ∙ g) ∙ same ∙ sym (denoted-closed p phases k c g))
     (λ f g. denoted-open p after new c f (e ∙ g) ∙ ap (with_all p new f (all_workers p)) same

@@ -1,8 +1,9 @@
 -- Each task of a program of blocks that delivers has one delivery, in order.
-use Rattle.sj_phases.proofs.Words.{[], All, AllPairs, ap, append_assoc, AreOrderly, arith, begin_rows, Bool, Cell, closed, combine_row, combine_rows, cond, copy_at, count_by, Deliver, Delivery, direct, expand, expanded, Expansion, false, first_units, flat_map, fold, get_or, init_row, init_rows, inl, inr, IsDelivered, Kernel, kernel_of, Least, length, length-append, Line, List, Lowered, map, moved, nat_eq, no_task, None, open_at, opened, OpenReductions, Option, phase_turned, PhaseOpening, plain_next, Plainly, Plus, prepared, Program, range_with_len, Reduction, refl, Some, subst, suc, sym, TaskBlock, units, ℕ, ◌++◌, ◌+◌, ◌-◌, ◌<◌, ◌∙◌, ◌∷◌, ◌≡◌, ◌≤◌}
+use Rattle.sj_phases.proofs.Words.{[], All, AllPairs, ap, append_assoc, arith, begin_rows, Bool, closed, combine_row, combine_rows, cond, copy_at, count_by, Deliver, Delivery, direct, expanded, Expansion, false, first_units, flat_map, fold, get_or, init_row, init_rows, inl, inr, IsDelivered, IsOrderly, Kernel, kernel_of, length, length-append, Line, List, Lowered, map, moved, nat_eq, no_task, None, opened, OpenReductions, Option, PhaseOpening, plain_next, Plainly, prepared, Program, range_with_len, refl, Some, subst, suc, sym, TaskBlock, units, ℕ, ◌++◌, ◌+◌, ◌-◌, ◌<◌, ◌∙◌, ◌∷◌, ◌≡◌, ◌≤◌}
 use Rattle.std.proofs.lemmas.{Bool.cases_lt, Bool.cond_both, Bool.Decides.Decides-eqb, Bool.ne_eqb, List.Elements.All-append, List.Elements.All-from_recursion, List.Elements.All-get_or, List.Elements.All-head, List.Elements.All-map, List.Elements.All-nil, List.Elements.All-tail, List.Elements.All-weaker, List.get_or-append-add, List.get_or-append_right, List.get_or-map, List.get_or_append_left, List.Kept.AllPairs-cons, List.length-map, List.Sums.sum_by-append, List.Sums.sum_by-cons}
 use Rattle.sj_base.proofs.{Bools.same_test, Lists.sum_by-agree, Lists.sum_by-map}
-use Rattle.sj_phases.proofs.Logging.{option-cases}
+use Rattle.sj_phases.proofs.{Blocks.by_closed, Good.none-combine, Good.none-init, Lists.by_option, Lists.fold_keeps}
+pub use Rattle.sj_phases.proofs.Good.{IsOther}
 
 -- ---- lists
 
@@ -26,10 +27,6 @@ pairs-append R (x ∷ xs) ys a b across =
 -- what a task of a number runs
 abbrev runs : List Lowered → ℕ → Option Kernel
 runs ts n = kernel_of (get_or ts n no_task).codelet
-
--- the task doesn't deliver
-abbrev pub IsOther : Lowered → Type 0
-IsOther l = kernel_of l.codelet ≡ Some Deliver → ⊥
 
 left : (ts ls : List Lowered) (n : ℕ) → n < length ts → runs (ts ++ ls) n ≡ runs ts n
 left ts ls n h = ap (λ (l : Lowered). kernel_of l.codelet) (get_or_append_left ts ls no_task n h)
@@ -83,17 +80,6 @@ delivered-own ts us ds es own h = record {
 
 -- ---- blocks
 
-none-init : (by : Reduction) (line : Line) (c : Cell) → IsOther (init_row by line c)
-none-init Plus line c e = absurd (cc)
-none-init Least line c e = absurd (cc)
-
-none-combine : (by : Reduction) (c : Cell) (line : Line) (q : Cell) → IsOther (combine_row by c line q)
-none-combine Plus c line q e = absurd (cc)
-none-combine Least c line q e = absurd (cc)
-
-none-map : (g : ℕ → Lowered) (ws : List ℕ) → ((w : ℕ) → IsOther (g w)) → All IsOther (map g ws)
-none-map g ws none = All-map IsOther g ws (λ k d lt. none (get_or ws k d))
-
 none-units : (o : PhaseOpening) (line : Line) → All IsOther (first_units o line)
 none-units o line = cond_both o.valued [] (init_row o.by line o.cell ∷ []) (All IsOther) (λ e. All-nil IsOther) (λ e. All-from_recursion IsOther (init_row o.by line o.cell ∷ []) (none-init o.by line o.cell, tt))
 
@@ -101,39 +87,23 @@ none-all : (os : List PhaseOpening) (line : Line) → All IsOther (flat_map (λ 
 none-all [] line = All-nil IsOther
 none-all (o ∷ os) line = All-append IsOther (first_units o line) (flat_map (λ x. first_units x line) os) (none-units o line) (none-all os line)
 
-delivered-closed : (w : ℕ) (E : Expansion) (c : Cell) → IsDelivered E.tasks E.deliveries → IsDelivered (closed w E c).tasks (closed w E c).deliveries
-delivered-closed w E c h = option-cases (E.phase c) E (λ f. phase_turned (combine_rows f c w) c None E) (λ (F : Expansion). IsDelivered F.tasks F.deliveries) (λ none. h)
-    (λ f is. delivered-more E.tasks (combine_rows f c w) E.deliveries (none-map (λ v. combine_row f.by c f.line (copy_at f.copies v)) (range_with_len 0 w) (λ v. none-combine f.by c f.line (copy_at f.copies v))) h)
+-- what begins and closes phases delivers nothing
+delivered-prepared : (w : ℕ) (b : TaskBlock) (E : Expansion) → IsDelivered E.tasks E.deliveries → IsDelivered (prepared w E b).tasks (prepared w E b).deliveries
+delivered-prepared w b E h = fold_keeps (λ (F : Expansion). IsDelivered F.tasks F.deliveries) (opened w b.line) (λ F o k. by_option (F.phase o.cell) (λ x. IsDelivered (F.tasks ++ (elim x as (λ _. List Lowered) [ None ↦ begin_rows w o b.line | Some f ↦ [] ])) F.deliveries)
+    (λ none. delivered-more F.tasks (begin_rows w o b.line) F.deliveries (All-append IsOther (init_rows o.by o.copies w b.line) (first_units o b.line) (All-map IsOther (λ v. init_row o.by b.line (copy_at o.copies v)) (range_with_len 0 w) (λ i d lt. none-init o.by b.line (copy_at o.copies (get_or (range_with_len 0 w) i d)))) (none-units o b.line)) k)
+    (λ f is. delivered-more F.tasks [] F.deliveries (All-nil IsOther) k)) (fold (closed w) E b.closes) b.opens
+    (fold_keeps (λ (F : Expansion). IsDelivered F.tasks F.deliveries) (closed w) (λ F c k. by_closed w F c (λ (G : Expansion). IsDelivered G.tasks G.deliveries) (λ none. k) (λ f is. delivered-more F.tasks (combine_rows f c w) F.deliveries
+    (All-map IsOther (λ v. combine_row f.by c f.line (copy_at f.copies v)) (range_with_len 0 w) (λ i d lt. none-combine f.by c f.line (copy_at f.copies (get_or (range_with_len 0 w) i d)))) k)) E b.closes h)
 
-delivered-closes : (w : ℕ) (cs : List Cell) (E : Expansion) → IsDelivered E.tasks E.deliveries → IsDelivered (fold (closed w) E cs).tasks (fold (closed w) E cs).deliveries
-delivered-closes w [] E h = h
-delivered-closes w (c ∷ cs) E h = delivered-closes w cs (closed w E c) (delivered-closed w E c h)
-
-delivered-opened : (w : ℕ) (line : Line) (E : Expansion) (o : PhaseOpening) → IsDelivered E.tasks E.deliveries → IsDelivered (opened w line E o).tasks (opened w line E o).deliveries
-delivered-opened w line E o h = option-cases (E.phase o.cell) (begin_rows w o line) (λ f. []) (λ (ls : List Lowered). IsDelivered (E.tasks ++ ls) E.deliveries)
-    (λ none. delivered-more E.tasks (begin_rows w o line) E.deliveries (All-append IsOther (init_rows o.by o.copies w line) (first_units o line) (none-map (λ v. init_row o.by line (copy_at o.copies v)) (range_with_len 0 w) (λ v. none-init o.by line (copy_at o.copies v))) (none-units o line)) h)
-    (λ f is. delivered-more E.tasks [] E.deliveries (All-nil IsOther) h)
-
-delivered-opens : (w : ℕ) (line : Line) (os : List PhaseOpening) (E : Expansion) → IsDelivered E.tasks E.deliveries → IsDelivered (fold (opened w line) E os).tasks (fold (opened w line) E os).deliveries
-delivered-opens w line [] E h = h
-delivered-opens w line (o ∷ os) E h = delivered-opens w line os (opened w line E o) (delivered-opened w line E o h)
-
-pub delivered-expand : (p : Program) (was : OpenReductions) (w : ℕ) (bs : List TaskBlock) (E : Expansion) → AreOrderly p was bs → IsDelivered E.tasks E.deliveries → IsDelivered (expand w E bs).tasks (expand w E bs).deliveries
-delivered-expand p was w [] E orderly h = h
-delivered-expand p was w (b ∷ bs) E orderly h =
-    delivered-expand p (open_at was b) w bs (expanded w E b) orderly.1
-    (delivered-own (prepared w E b).tasks b.tasks (prepared w E b).deliveries b.deliveries orderly.0.delivered (delivered-opens w b.line b.opens (fold (closed w) E b.closes) (delivered-closes w b.closes E h)))
-
--- without phases
-delivered-direct : (ts : List Lowered) (ds : List Delivery) → IsDelivered ts ds → IsDelivered (map direct ts) ds
-delivered-direct ts ds = delivered-like ts (map direct ts) ds (omega (arith, length-map ts direct)) (λ n lt. ap (λ (l : Lowered). kernel_of l.codelet) (get_or-map direct ts n no_task no_task lt)) (λ n past lt. absurd (omega (arith, past, lt, length-map ts direct)))
-
-pub delivered-plain : (p : Program) (was : OpenReductions) (bs : List TaskBlock) (Q : Plainly) → AreOrderly p was bs → IsDelivered Q.tasks Q.deliveries → IsDelivered (fold plain_next Q bs).tasks (fold plain_next Q bs).deliveries
-delivered-plain p was [] Q orderly h = h
-delivered-plain p was (b ∷ bs) Q orderly h =
-    delivered-plain p (open_at was b) bs (plain_next Q b) orderly.1
-    (subst (λ (ts : List Lowered). IsDelivered ts (Q.deliveries ++ map (moved (length (Q.tasks ++ units b))) b.deliveries)) (append_assoc Q.tasks (units b) (map direct b.tasks))
-    (delivered-own (Q.tasks ++ units b) (map direct b.tasks) Q.deliveries b.deliveries (delivered-direct b.tasks b.deliveries orderly.0.delivered) (delivered-more Q.tasks (units b) Q.deliveries (none-all b.opens b.line) h)))
+-- what each block keeps, with phases and without
+pub delivered-block : (p : Program) (w : ℕ) (b : TaskBlock) (E : Expansion) (Q : Plainly) (was : OpenReductions) → IsOrderly p was b → IsDelivered E.tasks E.deliveries × IsDelivered Q.tasks Q.deliveries
+    → IsDelivered (expanded w E b).tasks (expanded w E b).deliveries × IsDelivered (plain_next Q b).tasks (plain_next Q b).deliveries
+delivered-block p w b E Q was orderly h = (
+  delivered-own (prepared w E b).tasks b.tasks (prepared w E b).deliveries b.deliveries orderly.delivered (delivered-prepared w b E h.0),
+  subst (λ (ts : List Lowered). IsDelivered ts (Q.deliveries ++ map (moved (length (Q.tasks ++ units b))) b.deliveries)) (append_assoc Q.tasks (units b) (map direct b.tasks))
+      (delivered-own (Q.tasks ++ units b) (map direct b.tasks) Q.deliveries b.deliveries (delivered-like b.tasks (map direct b.tasks) b.deliveries (omega (arith, length-map b.tasks direct))
+      (λ n lt. ap (λ (l : Lowered). kernel_of l.codelet) (get_or-map direct b.tasks n no_task no_task lt)) (λ n past lt. absurd (omega (arith, past, lt, length-map b.tasks direct))) orderly.delivered) (delivered-more Q.tasks (units b) Q.deliveries (none-all b.opens b.line) h.1)),
+)
 
 pub delivered-none : IsDelivered [] []
 delivered-none = record {

@@ -1,13 +1,10 @@
 -- Steps of the code: what each does to an expansion, and several one after another.
-use Rattle.sj_phases.proofs.Words.{[], ap, append_assoc, arith, begin_rows, Bool, Cell, closed, combine_rows, cond, Delivery, Does, Expander, Expansion, false, fold, get, HasAt, HasExpansion, IfSome, if◌then◌else◌, IndexMap, init_row, init_rows, is_some, length, length-append, Line, List, Lowered, map, most, nat_eq, nat_lt, None, not, opened, OpenPhase, Option, over_after, phase_at, phase_turned, PhaseOpening, range_with_len, refl, Some, StandsAt, subst, sym, true, with_entries, with_own, with_phase, ℕ, ◌++◌, ◌+◌, ◌<◌, ◌∙◌, ◌∷◌, ◌≡◌, ◌≤◌}
+use Rattle.sj_phases.proofs.Words.{[], ap, append_assoc, arith, begin_rows, Bool, Cell, closed, combine_rows, cond, Delivery, Does, Expander, Expansion, false, fold, get, HasAt, HasExpansion, IfSome, if◌then◌else◌, init_row, init_rows, is_some, length, length-append, Line, List, Lowered, map, most, nat_eq, nat_lt, None, not, opened, OpenPhase, Option, over_after, phase_at, phase_turned, PhaseOpening, range_with_len, refl, Some, StandsAt, subst, sym, true, with_entries, with_own, with_phase, ℕ, ◌++◌, ◌+◌, ◌∙◌, ◌∷◌, ◌≡◌, ◌≤◌}
 use Rattle.std.proofs.lemmas.{Bool.cond_both, Bool.le-ltb, Bool.lt-ltb, Bool.ltb-true, Bool.not-false, Bool.not-true, List.append-nil, List.Folds.fold_stays, List.FromFn.map-range_with_len_more, List.nil_from_length}
 use Rattle.sj_base.proofs.Options.{IfSome-at}
-use Rattle.sj_phases.proofs.{Blocks.GoesOn, Logging.by_which, Logging.phase-other, Logging.phase-own}
+use Rattle.sj_phases.proofs.{Blocks.GoesOn, Lists.by_option, Logging.by_which, Logging.phase-other, Logging.phase-own}
 
 -- ---- the line with which there were too many tasks
-
-over-late : (line : Line) (E : Expansion) → most < length E.tasks → over_after None line E ≡ Some line
-over-late line E h = ap (λ b. if b then Some line else None) (lt-ltb most (length E.tasks) h)
 
 over-early : (line : Line) (E : Expansion) → length E.tasks ≤ most → over_after None line E ≡ None
 over-early line E h = ap (λ b. if b then Some line else None) (le-ltb most (length E.tasks) h)
@@ -16,7 +13,7 @@ over-early line E h = ap (λ b. if b then Some line else None) (le-ltb most (len
 over-again : (o : Option Line) (line : Line) (E F : Expansion) → length E.tasks ≤ length F.tasks → over_after (over_after o line E) line F ≡ over_after o line F
 over-again (Some first) line E F h = refl
 over-again None line E F h = cond_both {A = Option Line} (nat_lt most (length E.tasks)) (Some line) None (λ o. over_after o line F ≡ over_after None line F)
-    (λ e. (let above = ltb-true most (length E.tasks) e in sym (over-late line F (omega (arith, above, h))))) (λ e. refl)
+    (λ e. (let above = ltb-true most (length E.tasks) e in sym (ap (λ b. if b then Some line else None) (lt-ltb most (length F.tasks) (omega (arith, above, h)))))) (λ e. refl)
 
 pub none-over : {X : Type 0} (o : Option X) (b : Bool) → b ≡ is_some o → b ≡ false → o ≡ None
 none-over None b is none = refl
@@ -65,23 +62,16 @@ goes-own ls ds E = (ls, refl)
 
 -- nothing is done
 pub does-nothing : (x : Expander) (line : Line) → Does x x line (λ E. E)
-does-nothing x line = record { at = λ E at. at; over = λ E at. by_over x.over refl E at; workers = refl }
-  where
-    by_over : (o : Option Line) → x.over ≡ o → (E : Expansion) → StandsAt x E → x.over ≡ over_after x.over line E
-    by_over None e E at = e ∙ sym (over-early line E (at e).few) ∙ ap (λ o. over_after o line E) (sym e)
-    by_over (Some first) e E at = e ∙ ap (λ o. over_after o line E) (sym e)
+does-nothing x line = record { at = λ E at. at; over = λ E at. by_option x.over (λ o. o ≡ over_after o line E) (λ e. sym (over-early line E (at e).few)) (λ first e. refl); workers = refl }
 
 -- no task yet
 pub does-start : (x : Expander) (line : Line) (ls : List Lowered) → ls ≡ [] → Does x x line (with_own ls [])
 does-start x line ls none = does-as x x line (λ E. E) (with_own ls []) (λ E. own-nothing E ∙ ap (λ (ms : List Lowered). with_own ms [] E) (sym none)) (does-nothing x line)
 
-pub own-append : (ls ms : List Lowered) (E : Expansion) → with_own ms [] (with_own ls [] E) ≡ with_own (ls ++ ms) [] E
-own-append ls ms E = λ i. record { tasks = append_assoc E.tasks ls ms i; deliveries = append-nil (E.deliveries ++ []) i; phase = E.phase }
-
 -- a task more
 pub does-more : (a b c : Expander) (line : Line) (ls ms : List Lowered) (l : Lowered) → ms ≡ ls ++ l ∷ [] → Does a b line (with_own ls []) → Does b c line (with_own (l ∷ []) []) → Does a c line (with_own ms [])
 does-more a b c line ls ms l e p q =
-    does-where a c line (λ E. with_own (l ∷ []) [] (with_own ls [] E)) (with_own ms []) (λ E at. own-append ls (l ∷ []) E ∙ ap (λ (xs : List Lowered). with_own xs [] E) (sym e))
+    does-where a c line (λ E. with_own (l ∷ []) [] (with_own ls [] E)) (with_own ms []) (λ E at i. record { tasks = (append_assoc E.tasks ls (l ∷ []) ∙ ap (λ xs. E.tasks ++ xs) (sym e)) i; deliveries = append-nil (E.deliveries ++ []) i; phase = E.phase })
     (does-then a b c line (with_own ls []) (with_own (l ∷ []) []) (goes-own (l ∷ []) []) p q)
 
 -- a task more of those that are numbered
@@ -90,15 +80,8 @@ does-next a b c line g n l e = does-more a b c line (map g (range_with_len 0 n))
 
 -- ---- phases
 
--- the phases afterwards
-abbrev pub Sets : Expander → Expander → Cell → Option OpenPhase → Type 0
-Sets old new c o = (d : ℕ) → get nat_eq new.phases d ≡ cond (nat_eq c.0 d) o (get nat_eq old.phases d)
-
-own-turned : (ls : List Lowered) (c : Cell) (o : Option OpenPhase) (E : Expansion) → with_own ls [] (phase_turned [] c o E) ≡ phase_turned ls c o E
-own-turned ls c o E = λ i. record { tasks = append-nil E.tasks i ++ ls; deliveries = append-nil E.deliveries i; phase = with_phase c o E.phase }
-
 -- the phase of a cell is this one, or none
-module _ (old mid : Expander) (line : Line) (c : Cell) (o : Option OpenPhase) (none : old.over ≡ None) (early : mid.over ≡ None) (workers : mid.workers ≡ old.workers) (tasks : mid.tasks ≡ old.tasks) (deliveries : mid.deliveries ≡ old.deliveries) (sets : Sets old mid c o)
+module _ (old mid : Expander) (line : Line) (c : Cell) (o : Option OpenPhase) (none : old.over ≡ None) (early : mid.over ≡ None) (workers : mid.workers ≡ old.workers) (tasks : mid.tasks ≡ old.tasks) (deliveries : mid.deliveries ≡ old.deliveries) (sets : (d : ℕ) → get nat_eq mid.phases d ≡ cond (nat_eq c.0 d) o (get nat_eq old.phases d))
     (inside : IfSome o (λ f. f.copies.0 + old.workers ≤ most)) where
   sets-on : Does old mid line (phase_turned [] c o)
   sets-on = does-on old mid line (phase_turned [] c o) none early workers (λ E f. record {
@@ -116,7 +99,7 @@ module _ (old mid : Expander) (line : Line) (c : Cell) (o : Option OpenPhase) (n
 
   -- then come tasks: both together are a change that comes to the same
   pub sets-then : (new : Expander) (ls : List Lowered) (change : Expansion → Expansion) → ((E : Expansion) → HasExpansion old E → change E ≡ phase_turned ls c o E) → Does mid new line (with_own ls []) → Does old new line change
-  sets-then new ls change same p = does-where old new line (λ E. with_own ls [] (phase_turned [] c o E)) change (λ E at. own-turned ls c o E ∙ sym (same E (at none)))
+  sets-then new ls change same p = does-where old new line (λ E. with_own ls [] (phase_turned [] c o E)) change (λ E at. (λ i. record { tasks = append-nil E.tasks i ++ ls; deliveries = append-nil E.deliveries i; phase = with_phase c o E.phase }) ∙ sym (same E (at none)))
       (does-then old mid new line (phase_turned [] c o) (with_own ls []) (λ E. (ls, refl)) sets-on p)
 
 -- what closing and opening come to, by the cell's phase
@@ -135,9 +118,6 @@ begin-unvalued w o line h = ap (λ (v : Bool). init_rows o.by o.copies w line ++
 
 -- ---- several cells, where none is open
 
-empty-get : {X S : Type 0} (m : IndexMap ℕ X S) (k : ℕ) → length m.entries ≡ 0 → get nat_eq m k ≡ None
-empty-get m k h = ap (λ es. get nat_eq (with_entries m es) k) (nil_from_length m.entries h)
-
 pub closes-none : (x : Expander) (line : Line) (cs : List Cell) → x.over ≡ None → length x.phases.entries ≡ 0 → Does x x line (λ E. fold (closed x.workers) E cs)
-closes-none x line cs none empty = does-where x x line (λ E. E) (λ E. fold (closed x.workers) E cs) (λ E at. sym (fold_stays (closed x.workers) E (λ c. closed-is x.workers E c None (sym ((at none).phases c) ∙ empty-get x.phases c.0 empty)) cs))
+closes-none x line cs none empty = does-where x x line (λ E. E) (λ E. fold (closed x.workers) E cs) (λ E at. sym (fold_stays (closed x.workers) E (λ c. closed-is x.workers E c None (sym ((at none).phases c) ∙ ap (λ es. get nat_eq (with_entries x.phases es) c.0) (nil_from_length x.phases.entries empty))) cs))
     (does-on x x line (λ E. E) none none refl (λ E f. f))

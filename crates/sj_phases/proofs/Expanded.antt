@@ -1,10 +1,10 @@
 -- The program of blocks is proper, and holds and hands over what it does without phases.
-use Rattle.sj_phases.proofs.Words.{[], Access, access, after_chosen, All, ap, append_assoc, AreDelivered, AreOpenings, AreOrderly, arith, Bool, Cell, cell_info, CellInfo, cells_below, cells_of, cond, Contains, copy_of, data_operands, Deliver, Delivery, direct, direct_access, expand, expanded, Expansion, false, filter, final, FitsCodelet, fold, get_or, given, handed_over, HasValueBefore, held_before, held_in, HoldsPlain, inl, inr, is_data, is_redux, is_scratch, is_some, IsLawful, IsOrderly, IsOrderlyTask, IsPlain, IsUnaliased, Kernel, kernel_of, last_block, length, length-append, Line, List, Lowered, map, MayExpand, MayHaveModes, moved, no_cell, no_task, None, none_open, not, nothing, open_after, open_at, OpenReductions, out, PhaseOpening, plain_next, plain_program, plain_rows, Plainly, prepared, Program, program_of_blocks, Proper, R, range_with_len, reads_value, Reduction, refl, same_cell, shut_by, Some, subst, sym, Task, task, task_of, TaskBlock, true, units, with_opening, with_shut, worked_on, Worker, ℕ, ◌++◌, ◌+◌, ◌<◌, ◌∙◌, ◌∷◌, ◌≡◌, ◌⊎◌}
+use Rattle.sj_phases.proofs.Words.{[], Access, access, after_chosen, All, ap, append_assoc, AreDelivered, AreOpenings, AreOrderly, arith, Bool, Cell, cell_info, CellInfo, cells_below, cells_of, cond, Contains, copy_of, data_operands, Deliver, Delivery, direct, direct_access, expand, expanded, Expansion, false, filter, final, FitsCodelet, fold, get_or, given, handed_over, HasValueBefore, held_before, held_in, HoldsPlain, inl, inr, is_data, is_redux, is_scratch, is_some, IsDelivered, IsLawful, IsOrderly, IsOrderlyTask, IsPlain, IsUnaliased, Kernel, kernel_of, last_block, length, length-append, Line, List, Lowered, map, MayExpand, MayHaveModes, moved, no_task, None, none_open, not, nothing, open_after, open_at, OpenReductions, out, PhaseOpening, plain_program, plain_rows, Plainly, prepared, Program, program_of_blocks, Proper, R, range_with_len, reads_value, Reduction, refl, same_cell, shut_by, Some, subst, sym, Task, task, task_of, TaskBlock, true, units, with_opening, with_shut, worked_on, Worker, ℕ, ◌++◌, ◌+◌, ◌<◌, ◌∙◌, ◌∷◌, ◌≡◌, ◌⊎◌}
 use Rattle.sj_core.proofs.Given.{none-open}
-use Rattle.std.proofs.lemmas.{Bool.cases_lt, List.append-nil, List.Elements.All-contains, List.Elements.All-from_get_or, List.Elements.Contains-get_or, List.get_or-map, List.get_or_default, List.get_or_past, List.length-map, List.map-append, List.Sums.fold-append}
+use Rattle.std.proofs.lemmas.{List.append-nil, List.Elements.All-contains, List.Elements.All-from_get_or, List.Elements.Contains-get_or, List.get_or-map, List.get_or_default, List.length-map, List.map-append, List.Sums.fold-append}
 use Rattle.sj_base.proofs.Modes.{one-read}
 use Rattle.sj_core.proofs.{Folding.map-same, Modes.deliver-modes, Readiness.Contains-filter, Readiness.Contains-map, TaskCells.operand-inside, Workers.workers-alike}
-use Rattle.sj_phases.proofs.{Blocks.along-blocks, Blocks.begun-blocks, Blocks.fine-among, Blocks.fine-block, Blocks.fine-start, Blocks.orderly-twin, Blocks.prepared-deliveries, Blocks.stand-at, Combined.denoted-closed, Combined.IsTrusted, Combined.Phases, Contents.contents_before, Contents.first_worker, Delivered.delivered-expand, Delivered.delivered-none, Delivered.delivered-plain, Fine.Begins, Fine.begins-stand, Fine.by_of, Fine.Fine, Fine.none-by, Good.AreTwins, Good.IsGood, Good.twin-copy, Good.twin-plain, Holding.Holds, Lists.all-from, Lists.by_option, Lists.cons-cases, Lists.fold_keeps, Lists.range-has, Lists.split-at, Logging.by_which, Logging.has-phases, Logging.none_isn't, Logging.phase-other, Logging.phase-own, Logging.some_is}
+use Rattle.sj_phases.proofs.{Blocks.along-blocks, Blocks.begun-blocks, Blocks.fine-among, Blocks.fine-block, Blocks.fine-start, Blocks.orderly-twin, Blocks.prepared-deliveries, Blocks.stand-at, Combined.denoted-closed, Combined.IsTrusted, Combined.Phases, Contents.contents_before, Contents.first_worker, Delivered.delivered-block, Delivered.delivered-none, Fine.Begins, Fine.begins-stand, Fine.by_of, Fine.Fine, Fine.none-by, Good.AreTwins, Good.IsGood, Good.twin-copy, Good.twin-plain, Holding.Holds, Lists.all-from, Lists.by_option, Lists.cons-cases, Lists.fold_keeps, Lists.range-has, Lists.split-at, Logging.by_which, Logging.has-phases, Logging.none_isn't, Logging.phase-other, Logging.phase-own, Logging.some_is, Owning.is-inside}
 use mathlib.Core.List.{map-map}
 
 -- no task yet
@@ -12,7 +12,7 @@ abbrev pub start : Plainly
 start = record { tasks = []; deliveries = [] }
 
 pub delivered : (p : Program) (rows : List CellInfo) (workers : ℕ) (bs : List TaskBlock) → AreOrderly p none_open bs → AreDelivered rows workers bs
-delivered p rows workers bs orderly = record { expanded = delivered-expand p none_open workers bs nothing orderly delivered-none; plain = delivered-plain p none_open bs start orderly delivered-none }
+delivered p rows workers bs orderly = let both = along-blocks p workers (λ E Q was. IsDelivered E.tasks E.deliveries × IsDelivered Q.tasks Q.deliveries) (delivered-block p workers) bs nothing start none_open orderly (delivered-none, delivered-none) in record { expanded = both.0; plain = both.1 }
 
 module _ (rows : List CellInfo) (workers : ℕ) (bs : List TaskBlock) (can : MayExpand rows workers bs) where
   abbrev p : Program
@@ -96,50 +96,39 @@ module _ (rows : List CellInfo) (workers : ℕ) (bs : List TaskBlock) (can : May
         cell_of : (r : Program) (i : ℕ) (c : Cell) → (task_of r (task i)).accesses ≡ access R c ∷ [] → get_or (cells_of r (task i) first_worker) 0 (record { 0 = 0 }) ≡ c
         cell_of r i c accesses = ap (λ (xs : List Access). get_or (map (worked_on r first_worker) (filter (λ b. is_data b.mode) xs)) 0 (record { 0 = 0 })) accesses
 
-    module _ (x : TaskBlock) (F : Expansion) (Q : Plainly) (was : OpenReductions) (h : IsOrderly p was x) (b : Begins p.tasks (expanded p.workers F x).tasks) (d : Begins q.tasks (Q.tasks ++ plain_rows x)) (fine_before : Fine p q F.tasks F.phase Q.tasks [] was) (same : map (handed_over p) F.deliveries ≡ map (handed_over q) Q.deliveries) where
-      abbrev Ready : Expansion
-      Ready = prepared p.workers F x
-
-      abbrev us : List Lowered
-      us = Q.tasks ++ units x
-
-      abbrev n : ℕ
-      n = length Ready.tasks
-
-      abbrev m : ℕ
-      m = length us
-
-      one : (e : Delivery) → Contains x.deliveries e → handed_over p (moved n e) ≡ handed_over q (moved m e)
-      one e has' =
-          let i = e.task.0 in
-          let lt = All-contains (λ (z : Delivery). z.task.0 < length x.tasks) x.deliveries e h.delivered.below has' in
-          let deliver = All-contains (λ (z : Delivery). kernel_of (get_or x.tasks z.task.0 no_task).codelet ≡ Some Deliver) x.deliveries e h.delivered.deliver has' in
-          let l = get_or x.tasks i no_task in
-          let s = split-at x.tasks i no_task lt in
-          let f = fine-among p q twins can.proper F Q.tasks was x h b d fine_before s.0 (l ∷ s.1) s.2 in
-          let at = stand-at p n x.tasks l i (begins-stand p Ready.tasks x.tasks b) lt (get_or_default x.tasks i l no_task lt) in
-          let plain_stand = begins-stand q us (map direct x.tasks) (d.0, d.1 ∙ ap (λ zs. zs ++ d.0) (sym (append_assoc Q.tasks (units x) (map direct x.tasks)))) in
-          let plain_at = stand-at q m (map direct x.tasks) (direct l) i plain_stand (omega (arith, lt, length-map x.tasks direct)) (get_or-map direct x.tasks i no_task (direct l) lt) in
-          let there : length (Ready.tasks ++ s.0) ≡ n + i = length-append Ready.tasks s.0 ∙ ap (λ k. n + k) s.3 in
-          let plain_there : length (us ++ map direct s.0) ≡ m + i = length-append us (map direct s.0) ∙ ap (λ k. m + k) (length-map s.0 direct ∙ s.3) in
-          let holds = subst (λ k. Holds p q Ready.phase (contents_before p k) (contents_before q (m + i))) there (subst (λ k. Holds p q Ready.phase (contents_before p (length (Ready.tasks ++ s.0))) (contents_before q k)) plain_there (f.holds trust)) in
-          let alike = given-alike (n + i) (m + i) Ready.phase (open_at was x) l holds f.linked (All-contains (IsOrderlyTask p (open_at was x)) x.tasks l h.tasks (Contains-get_or x.tasks i no_task lt)) deliver at.1 at.0 plain_at.0 in
-          λ k. (e.root, e.place, e.print, alike k)
-
-      own : map (handed_over p) (map (moved n) x.deliveries) ≡ map (handed_over q) (map (moved m) x.deliveries)
-      own = map-map (handed_over p) (moved n) x.deliveries ∙ map-same (λ e. handed_over p (moved n e)) (λ e. handed_over q (moved m e)) x.deliveries one ∙ sym (map-map (handed_over q) (moved m) x.deliveries)
-
-      handed-block : map (handed_over p) (expanded p.workers F x).deliveries ≡ map (handed_over q) (plain_next Q x).deliveries
-      handed-block =
-          map-append (handed_over p) Ready.deliveries (map (moved n) x.deliveries)
-          ∙ (λ i. (ap (map (handed_over p)) (prepared-deliveries p.workers F x) ∙ same) i ++ own i)
-          ∙ sym (map-append (handed_over q) Q.deliveries (map (moved m) x.deliveries))
+    one : (x : TaskBlock) (F : Expansion) (Q : Plainly) (was : OpenReductions) → IsOrderly p was x → Begins p.tasks (expanded p.workers F x).tasks → Begins q.tasks (Q.tasks ++ plain_rows x) → Fine p q F.tasks F.phase Q.tasks [] was
+        → (e : Delivery) → Contains x.deliveries e → handed_over p (moved (length (prepared p.workers F x).tasks) e) ≡ handed_over q (moved (length (Q.tasks ++ units x)) e)
+    one x F Q was h b d fine_before e has' =
+        let Ready = prepared p.workers F x in
+        let us = Q.tasks ++ units x in
+        let n = length Ready.tasks in
+        let m = length us in
+        let i = e.task.0 in
+        let lt = All-contains (λ (z : Delivery). z.task.0 < length x.tasks) x.deliveries e h.delivered.below has' in
+        let deliver = All-contains (λ (z : Delivery). kernel_of (get_or x.tasks z.task.0 no_task).codelet ≡ Some Deliver) x.deliveries e h.delivered.deliver has' in
+        let l = get_or x.tasks i no_task in
+        let s = split-at x.tasks i no_task lt in
+        let f = fine-among p q twins can.proper F Q.tasks was x h b d fine_before s.0 (l ∷ s.1) s.2 in
+        let at = stand-at p n x.tasks l i (begins-stand p Ready.tasks x.tasks b) lt (get_or_default x.tasks i l no_task lt) in
+        let plain_stand = begins-stand q us (map direct x.tasks) (d.0, d.1 ∙ ap (λ zs. zs ++ d.0) (sym (append_assoc Q.tasks (units x) (map direct x.tasks)))) in
+        let plain_at = stand-at q m (map direct x.tasks) (direct l) i plain_stand (omega (arith, lt, length-map x.tasks direct)) (get_or-map direct x.tasks i no_task (direct l) lt) in
+        let there : length (Ready.tasks ++ s.0) ≡ n + i = length-append Ready.tasks s.0 ∙ ap (λ k. n + k) s.3 in
+        let plain_there : length (us ++ map direct s.0) ≡ m + i = length-append us (map direct s.0) ∙ ap (λ k. m + k) (length-map s.0 direct ∙ s.3) in
+        let holds = subst (λ k. Holds p q Ready.phase (contents_before p k) (contents_before q (m + i))) there (subst (λ k. Holds p q Ready.phase (contents_before p (length (Ready.tasks ++ s.0))) (contents_before q k)) plain_there (f.holds trust)) in
+        let alike = given-alike (n + i) (m + i) Ready.phase (open_at was x) l holds f.linked (All-contains (IsOrderlyTask p (open_at was x)) x.tasks l h.tasks (Contains-get_or x.tasks i no_task lt)) deliver at.1 at.0 plain_at.0 in
+        λ k. (e.root, e.place, e.print, alike k)
 
     pub holds_plain : HoldsPlain rows workers bs
     holds_plain = record {
       held = held;
       handed = (begun-blocks p q (λ F Q o. Fine p q F.tasks F.phase Q.tasks [] o × (map (handed_over p) F.deliveries ≡ map (handed_over q) Q.deliveries))
-          (λ x F Q o h b d before. (fine-block p q twins can.proper F Q.tasks o x h b d before.0, handed-block x F Q o h b d before.0 before.1))
+          (λ x F Q o h b d before.
+          (let n = length (prepared p.workers F x).tasks in let m = length (Q.tasks ++ units x) in
+          let own = map-map (handed_over p) (moved n) x.deliveries ∙ map-same (λ e. handed_over p (moved n e)) (λ e. handed_over q (moved m e)) x.deliveries (one x F Q o h b d before.0) ∙ sym (map-map (handed_over q) (moved m) x.deliveries) in (
+            fine-block p q twins can.proper F Q.tasks o x h b d before.0,
+            map-append (handed_over p) (prepared p.workers F x).deliveries (map (moved n) x.deliveries)
+                ∙ (λ i. (ap (map (handed_over p)) (prepared-deliveries p.workers F x) ∙ before.1) i ++ own i) ∙ sym (map-append (handed_over q) Q.deliveries (map (moved m) x.deliveries)),
+          )))
           bs nothing start none_open orderly ([], sym (append-nil p.tasks)) ([], sym (append-nil q.tasks)) (fine-start p q twins can.proper, refl)).1;
     }
 
@@ -160,23 +149,14 @@ shuts (d ∷ cs) was c h = shuts cs (with_shut was d) c (elim h [
 abbrev AreInside : List CellInfo → OpenReductions → Type 0
 AreInside rows was = (c : Cell) (by : Reduction) → was c ≡ Some by → c.0 < length rows
 
-shut-inside : (rows : List CellInfo) (cs : List Cell) (was : OpenReductions) → AreInside rows was → AreInside rows (fold with_shut was cs)
-shut-inside rows cs was = fold_keeps (AreInside rows) with_shut (λ o d h c by. elim (same_cell d c) as (λ b. cond b None (o c) ≡ Some by → c.0 < length rows) [ true ↦ (λ e. absurd (none_isn't by e)) | false ↦ h c by ]) was cs
-
 opening-inside : (p : Program) (tasks : List Lowered) (os : List PhaseOpening) (was : OpenReductions) → AreOpenings p tasks was os → AreInside p.cells was → AreInside p.cells (fold with_opening was os)
 opening-inside p tasks [] was h k = k
-opening-inside p tasks (o ∷ os) was h k = opening-inside p tasks os (with_opening was o) h.1 (λ c by e. by_which o.cell c (c.0 < length p.cells) (λ same. subst (λ (x : Cell). x.0 < length p.cells) same (there o.cell o.copies h.0.copies)) (λ other. k c by (sym (phase-other o.cell (Some o.by) was c other) ∙ e)))
-  where
-    there : (c first : Cell) → (cell_info p c).partials ≡ Some first → c.0 < length p.cells
-    there c first e = elim (cases_lt c.0 (length p.cells)) [
-      | inl inside ↦ inside
-      | inr past ↦ absurd (none_isn't first (sym (ap (λ (i : CellInfo). i.partials) (get_or_past p.cells c.0 no_cell past)) ∙ e))
-    ]
+opening-inside p tasks (o ∷ os) was h k = opening-inside p tasks os (with_opening was o) h.1 (λ c by e. by_which o.cell c (c.0 < length p.cells) (λ same. subst (λ (x : Cell). x.0 < length p.cells) same (is-inside p o.cell o.copies h.0.copies)) (λ other. k c by (sym (phase-other o.cell (Some o.by) was c other) ∙ e)))
 
 pub last-shuts : (rows : List CellInfo) (workers : ℕ) (bs : List TaskBlock) (line : Line) → AreOrderly (plain_program rows workers bs) none_open bs → (c : Cell) → open_after none_open (bs ++ last_block (length rows) line ∷ []) c ≡ None
 last-shuts rows workers bs line h c =
     ap (λ (was : OpenReductions). was c) (fold-append open_at none_open bs (last_block (length rows) line ∷ []))
     ∙ shuts (cells_below (length rows)) (open_after none_open bs) c (by_option (open_after none_open bs c) (λ o. Contains (cells_below (length rows)) c ⊎ (open_after none_open bs c ≡ None)) (λ e. inr e)
     (λ by e. (let p = plain_program rows workers bs in
-    let inside = along-blocks p workers (λ F Q o. AreInside rows o) (λ b F Q o k was. opening-inside p b.tasks b.opens (shut_by o b) k.openings (shut-inside rows b.closes o was)) bs nothing start none_open h (λ d by e. absurd (none_isn't by e)) in
+    let inside = along-blocks p workers (λ F Q o. AreInside rows o) (λ b F Q o k was. opening-inside p b.tasks b.opens (shut_by o b) k.openings (fold_keeps (AreInside rows) with_shut (λ r d h c by. elim (same_cell d c) as (λ t. cond t None (r c) ≡ Some by → c.0 < length rows) [ true ↦ (λ e. absurd (none_isn't by e)) | false ↦ h c by ]) o b.closes was)) bs nothing start none_open h (λ d by e. absurd (none_isn't by e)) in
     inl (Contains-map (λ k. let d : Cell = record { 0 = k } in d) (range_with_len 0 (length rows)) c.0 (range-has 0 (length rows) c.0 (omega arith) (omega (arith, inside c by e)))))))

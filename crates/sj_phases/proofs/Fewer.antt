@@ -1,20 +1,15 @@
 -- Without phases there are no more tasks than with them.
-use Rattle.sj_phases.proofs.Words.{[], ap, append_assoc, AreOpenings, AreOrderly, arith, begin_rows, Cell, CellInfo, closed, cond, direct, expand, expanded, Expansion, false, first_units, flat_map, fold, init_row, init_rows, IsOrderly, IsOrderlyOpening, length, length-append, Line, List, Lowered, map, None, none_open, nothing, open_at, opened, OpenReductions, Option, phase_at, PhaseOpening, plain_next, plain_program, plain_rows, Plainly, prepared, Program, Reduction, refl, same_cell, shut_by, Some, sym, TaskBlock, true, units, with_opening, with_shut, ℕ, ◌++◌, ◌∙◌, ◌∷◌, ◌≡◌, ◌≤◌}
-use Rattle.std.proofs.lemmas.{Bool.cond_both, List.Folds.fold_along, List.length-map}
-use Rattle.sj_base.proofs.SameIds.{same_cell-is}
-use Rattle.sj_phases.proofs.{Blocks.along-blocks, Blocks.by_closed, Blocks.goes-closes, Fine.by_of, Lists.by_option}
+use Rattle.sj_phases.proofs.Words.{[], ap, append_assoc, AreOpenings, AreOrderly, arith, begin_rows, Cell, CellInfo, closed, cond, direct, expand, expanded, Expansion, first_units, flat_map, fold, init_row, init_rows, IsOrderly, IsOrderlyOpening, length, length-append, Line, List, Lowered, map, None, none_open, nothing, open_at, opened, OpenReductions, phase_at, PhaseOpening, plain_next, plain_program, plain_rows, Plainly, prepared, Program, refl, shut_by, Some, sym, TaskBlock, units, with_opening, with_shut, ℕ, ◌++◌, ◌∙◌, ◌∷◌, ◌≡◌, ◌≤◌}
+use Rattle.std.proofs.lemmas.{List.Folds.fold_along, List.length-map}
+use Rattle.sj_phases.proofs.{Blocks.along-blocks, Blocks.by_closed, Blocks.goes-closes, Fine.by_of, Lists.by_option, Logging.phase-both, Logging.phase-each}
 
 -- where a phase is open, it is known with its reduction
 abbrev AreLinked : Expansion → OpenReductions → Type 0
 AreLinked E was = (c : Cell) → by_of (E.phase c) ≡ was c
 
 linked-closed : (w : ℕ) (E : Expansion) (was : OpenReductions) (c : Cell) → AreLinked E was → AreLinked (closed w E c) (with_shut was c)
-linked-closed w E was c h = by_closed w E c (λ F. AreLinked F (with_shut was c))
-    (λ none d. cond_both {A = Option Reduction} (same_cell c d) None (was d) (λ x. by_of (E.phase d) ≡ x) (λ same. ap (λ (e : Cell). by_of (E.phase e)) (sym (same_cell-is c d same)) ∙ ap by_of none) (λ other. h d))
-    (λ f is d. elim (same_cell c d) as (λ b. by_of (cond b None (E.phase d)) ≡ cond b None (was d)) [ true ↦ refl | false ↦ h d ])
-
-linked-opened : (w : ℕ) (line : Line) (E : Expansion) (was : OpenReductions) (o : PhaseOpening) → AreLinked E was → AreLinked (opened w line E o) (with_opening was o)
-linked-opened w line E was o h d = elim (same_cell o.cell d) as (λ b. by_of (cond b (Some (phase_at o line)) (E.phase d)) ≡ cond b (Some o.by) (was d)) [ true ↦ refl | false ↦ h d ]
+linked-closed w E was c h = by_closed w E c (λ F. AreLinked F (with_shut was c)) (λ none. phase-each c None was (λ d r. by_of (E.phase d) ≡ r) (ap by_of none) (λ d other. h d))
+    (λ f is. phase-both c None E.phase None was (λ d o r. by_of o ≡ r) refl (λ d other. h d))
 
 -- one opening: where the phase goes on the cell has a value
 fewer-opened : (p : Program) (w : ℕ) (line : Line) (ls us : List Lowered) (E : Expansion) (o : PhaseOpening) (was : OpenReductions) → IsOrderlyOpening p was ls o → AreLinked E was → length us ≤ length E.tasks → length (us ++ first_units o line) ≤ length (opened w line E o).tasks
@@ -27,7 +22,7 @@ fewer-opens : (p : Program) (w : ℕ) (line : Line) (ls : List Lowered) (os : Li
     → AreLinked (fold (opened w line) E os) (fold with_opening was os) × (length (us ++ flat_map (λ o. first_units o line) os) ≤ length (fold (opened w line) E os).tasks)
 fewer-opens p w line ls [] us E was h linked few = (linked, omega (arith, few, length-append us []))
 fewer-opens p w line ls (o ∷ os) us E was h linked few =
-    let rest = fewer-opens p w line ls os (us ++ first_units o line) (opened w line E o) (with_opening was o) h.1 (linked-opened w line E was o linked) (fewer-opened p w line ls us E o was h.0 linked few) in
+    let rest = fewer-opens p w line ls os (us ++ first_units o line) (opened w line E o) (with_opening was o) h.1 (phase-both o.cell (Some (phase_at o line)) E.phase (Some o.by) was (λ d x r. by_of x ≡ r) refl (λ d other. linked d)) (fewer-opened p w line ls us E o was h.0 linked few) in
     (rest.0, omega (arith, rest.1, ap length (append_assoc us (first_units o line) (flat_map (λ x. first_units x line) os))))
 
 -- the phases are linked, and there are no more tasks without them

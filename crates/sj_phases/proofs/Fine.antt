@@ -1,8 +1,8 @@
 -- What holds of the program of blocks and of their program without phases, task by task.
-use Rattle.sj_phases.proofs.Words.{[], Access, access, All, ap, arith, begin_rows, Cell, cell_info, CellInfo, closed, combine_row, combine_rows, cond, Contains, Contents, Contributes, contributes_of, copy_at, data_operands, dims_of, direct, Expansion, false, first_units, FitsCodelet, HasValueBefore, init_row, inl, inr, is_redux, is_some, is_written, IsOrderlyOpening, IsOrderlyTask, IsPlain, IsReduction, length, length-append, Line, List, list_any, Lowered, no_cell, no_task, None, not, opened, OpenPhase, OpenReductions, Option, option_map, out, phase_at, phase_turned, PhaseOpening, Program, Proper, reads_value, Reduction, Redux, refl, same_cell, Some, subst, subst₂, sym, task, task_of, true, with_opening, with_phase, with_shut, Worker, ℕ, ◌&&◌, ◌++◌, ◌+◌, ◌-◌, ◌<◌, ◌||◌, ◌∙◌, ◌∷◌, ◌≡◌, ◌≤◌}
-use Rattle.std.proofs.lemmas.{Bool.cases_Bool, Bool.cases_lt, List.append-nil, List.Elements.All-contains, List.Elements.All-get_or, List.FromFn.length-map-range_with_len, List.get_or_past}
+use Rattle.sj_phases.proofs.Words.{[], Access, access, ap, arith, begin_rows, Cell, cell_info, CellInfo, closed, combine_row, combine_rows, cond, Contains, Contents, Contributes, contributes_of, copy_at, data_operands, dims_of, direct, Expansion, false, first_units, FitsCodelet, HasValueBefore, init_row, inl, inr, is_redux, is_some, is_written, IsOrderlyOpening, IsOrderlyTask, IsPlain, IsReduction, length, length-append, Line, List, list_any, Lowered, no_task, None, not, opened, OpenPhase, OpenReductions, Option, option_map, out, phase_at, phase_turned, PhaseOpening, Program, Proper, reads_value, Reduction, Redux, refl, same_cell, Some, subst, subst₂, sym, task, task_of, true, with_opening, with_phase, with_shut, Worker, ℕ, ◌&&◌, ◌++◌, ◌+◌, ◌-◌, ◌<◌, ◌||◌, ◌∙◌, ◌∷◌, ◌≡◌, ◌≤◌}
+use Rattle.std.proofs.lemmas.{Bool.cases_Bool, Bool.cases_lt, List.append-nil, List.Elements.All-contains, List.Elements.All-get_or, List.FromFn.length-map-range_with_len}
 use Rattle.sj_core.proofs.{Readiness.list_any-some, Sized.after_chosen-sized, Sized.AreSized}
-use Rattle.sj_phases.proofs.{Beginning.begin-length, Beginning.begin-parts, Beginning.beginner, Beginning.log-begin, Beginning.OfCell, Beginning.OfCopy, Closing.log-close, Combined.IsTrusted, Combined.Phases, Contents.contents-next, Contents.contents_before, Contents.first_worker, Folding.after_rows, Folding.contents-rows, Folding.later, Folding.Stand, Folding.stand-there, Good.AreTwins, Good.good_combine, Good.good_init, Good.good_own, Good.HasItsCopies, Good.IsGood, Good.twin-copy, Good.twin-dims, Good.values-own, Good.values-units, Holding.AreOwned, Holding.bare, Holding.Holds, Holding.holds-begin, Holding.holds-beside, Holding.holds-close, Holding.holds-gift, Holding.holds-line, Lists.all-from, Logging.AreApart, Logging.IsLogged, Logging.IsOwnTask, Logging.IsToCome, Logging.log-line, Logging.log-own, Logging.Logged, Logging.none_isn't, Logging.option-cases, Logging.phase-both, Logging.phase-each, Logging.redux-access, Logging.row-at, Logging.some_is, Logging.used-now, Owning.copy-is, Owning.is-copy, Owning.IsOwn, Phasing.turned-bare}
+use Rattle.sj_phases.proofs.{Beginning.begin-length, Beginning.begin-parts, Beginning.beginner, Beginning.log-begin, Beginning.OfCell, Beginning.OfCopy, Closing.log-close, Combined.IsTrusted, Combined.Phases, Contents.contents-next, Contents.contents_before, Contents.first_worker, Folding.after_rows, Folding.contents-rows, Folding.later, Folding.Stand, Folding.stand-there, Good.AreTwins, Good.good_combine, Good.good_init, Good.good_own, Good.HasItsCopies, Good.IsGood, Good.twin-copy, Good.twin-dims, Good.values-own, Good.values-units, Holding.AreOwned, Holding.bare, Holding.Holds, Holding.holds-begin, Holding.holds-beside, Holding.holds-close, Holding.holds-gift, Holding.holds-line, Lists.all-from, Lists.by_option, Logging.AreApart, Logging.IsLogged, Logging.IsOwnTask, Logging.IsToCome, Logging.log-line, Logging.log-own, Logging.Logged, Logging.none_isn't, Logging.phase-both, Logging.phase-each, Logging.redux-access, Logging.row-at, Logging.some_is, Logging.used-now, Owning.copy-is, Owning.is-copy, Owning.is-inside, Owning.IsOwn, Phasing.turned-bare}
 use Rattle.sj_base.proofs.SameIds.{same_cell-itself}
 
 -- a list begins so
@@ -52,12 +52,6 @@ module _ (p q : Program) (twins : AreTwins p q) (proper : Proper q) where
       let h = proper.cells.copies (copy_at first w.0) c w (twin-copy p q twins (copy_at first w.0) c w (is-copy p c first w e below)) in
       (subst (λ (is : List CellInfo). (copy_at first w.0).0 < length is) (sym twins.cells) h.0, twin-dims p q twins (copy_at first w.0) ∙ h.1 ∙ sym (twin-dims p q twins c))
 
-  there : (c first : Cell) → (cell_info p c).partials ≡ Some first → c.0 < length p.cells
-  there c first e = elim (cases_lt c.0 (length p.cells)) [
-    | inl inside ↦ inside
-    | inr past ↦ absurd (none_isn't first (sym (ap (λ (i : CellInfo). i.partials) (get_or_past p.cells c.0 no_cell past)) ∙ e))
-  ]
-
   -- a partial copy of an open phase has a value
   copy_given : (n : ℕ) (c : Cell) (by : Reduction) (first : Cell) (start : ℕ) → IsLogged p n c by first start → (w : ℕ) → w < p.workers → HasValueBefore p (task n) (copy_at first w)
   copy_given n c by first start log w below =
@@ -69,42 +63,35 @@ module _ (p q : Program) (twins : AreTwins p q) (proper : Proper q) where
     abbrev rows : List Lowered
     rows = combine_rows f c p.workers
 
-    stand : Stand p (length ts) rows
-    stand = begins-stand p ts rows b
-
     longer : length (ts ++ rows) ≡ length ts + p.workers
     longer = length-append ts rows ∙ ap (λ n. length ts + n) (length-map-range_with_len (λ w. combine_row f.by c f.line (copy_at f.copies w)) 0 p.workers)
 
-    own : IsOwn p c f.copies
-    own = fine.owned c f is
-
-    -- a contribution found a value in the cell
-    given : HasValueBefore p (task (length ts)) c
-    given =
-        let u = used-now p (length ts) phases fine.logged c f is in
-        later p u.0 (length ts) c (omega (arith, u.2)) (All-contains (λ (a : Access). reads_value a.mode ≡ true → HasValueBefore p (task u.0) a.cell) (task_of p (task u.0)).accesses (access Redux c) (fine.good u.0 u.2).values u.3 refl)
-
     pub fine_shut : Fine p q (ts ++ rows) (with_phase c None phases) us [] (with_shut was c)
-    fine_shut = record {
-      good = good-more p (length ts) (length (ts ++ rows)) fine.good (λ n new lt. (
-          let w : Worker = record { 0 = n - length ts } in
-          let below : w.0 < p.workers = omega (arith, new, lt, longer) in
-          let copy = copy_there c f.copies w own.partials below in
-          subst (IsGood p n) (sym (row-at p (λ v. combine_row f.by c f.line (copy_at f.copies v)) (length ts) stand n new (omega (arith, lt, longer))))
-          (good_combine p n f.by c f.line (copy_at f.copies w.0) copy.0 (there c f.copies own.partials) copy.1
-          (turned-bare c (copy_at f.copies w.0) (bare p c c f.copies own.plain own.partials w.0 below))
-          (later p (length ts) n (copy_at f.copies w.0) new (copy_given (length ts) c f.by f.copies (fine.logged.start c) (fine.logged.opened c f is) w.0 below)) (later p (length ts) n c new given))));
-      logged = subst (λ n. Logged p n (with_phase c None phases) []) (sym longer) (log-close p (length ts) phases c f is stand own apart (λ d g h. (fine.owned d g h).plain) fine.logged);
-      values = λ d h. later p (length ts) (length (ts ++ rows)) d (omega (arith, longer)) (fine.values d h);
-      owned = phase-each c None phases (λ d o. (g : OpenPhase) → o ≡ Some g → IsOwn p d g.copies) (λ g e. absurd (none_isn't g e)) (λ d other. fine.owned d);
-      linked = phase-both c None phases None was (λ d o r. by_of o ≡ r) refl (λ d other. fine.linked d);
-      holds = λ trust. subst (λ (k : Contents). Holds p q (with_phase c None phases) k (contents_before q (length us))) (sym (contents-more p ts rows b)) (holds-close p q phases fine.owned (contents_before p (length ts)) (contents_before q (length us)) (fine.holds trust) c f is);
-    }
+    fine_shut =
+        let stand = begins-stand p ts rows b in
+        let own = fine.owned c f is in
+        -- a contribution found a value in the cell
+        let u = used-now p (length ts) phases fine.logged c f is in
+        let given = later p u.0 (length ts) c (omega (arith, u.2)) (All-contains (λ (a : Access). reads_value a.mode ≡ true → HasValueBefore p (task u.0) a.cell) (task_of p (task u.0)).accesses (access Redux c) (fine.good u.0 u.2).values u.3 refl) in
+        record {
+          good = good-more p (length ts) (length (ts ++ rows)) fine.good (λ n new lt. (
+              let w : Worker = record { 0 = n - length ts } in
+              let below : w.0 < p.workers = omega (arith, new, lt, longer) in
+              let copy = copy_there c f.copies w own.partials below in
+              subst (IsGood p n) (sym (row-at p (λ v. combine_row f.by c f.line (copy_at f.copies v)) (length ts) stand n new (omega (arith, lt, longer))))
+              (good_combine p n f.by c f.line (copy_at f.copies w.0) copy.0 (is-inside p c f.copies own.partials) copy.1
+              (turned-bare c (copy_at f.copies w.0) (bare p c c f.copies own.plain own.partials w.0 below))
+              (later p (length ts) n (copy_at f.copies w.0) new (copy_given (length ts) c f.by f.copies (fine.logged.start c) (fine.logged.opened c f is) w.0 below)) (later p (length ts) n c new given))));
+          logged = subst (λ n. Logged p n (with_phase c None phases) []) (sym longer) (log-close p (length ts) phases c f is stand own apart (λ d g h. (fine.owned d g h).plain) fine.logged);
+          values = λ d h. later p (length ts) (length (ts ++ rows)) d (omega (arith, longer)) (fine.values d h);
+          owned = phase-each c None phases (λ d o. (g : OpenPhase) → o ≡ Some g → IsOwn p d g.copies) (λ g e. absurd (none_isn't g e)) (λ d other. fine.owned d);
+          linked = phase-both c None phases None was (λ d o r. by_of o ≡ r) refl (λ d other. fine.linked d);
+          holds = λ trust. subst (λ (k : Contents). Holds p q (with_phase c None phases) k (contents_before q (length us))) (sym (contents-more p ts rows b)) (holds-close p q phases fine.owned (contents_before p (length ts)) (contents_before q (length us)) (fine.holds trust) c f is);
+        }
 
   pub fine-close : (E : Expansion) (us : List Lowered) (was : OpenReductions) (c : Cell) → Begins p.tasks (closed p.workers E c).tasks → Fine p q E.tasks E.phase us [] was → Fine p q (closed p.workers E c).tasks (closed p.workers E c).phase us [] (with_shut was c)
-  fine-close E us was c b fine = option-cases (E.phase c) E (λ f. phase_turned (combine_rows f c p.workers) c None E) (λ (F : Expansion). Begins p.tasks F.tasks → Fine p q F.tasks F.phase us [] (with_shut was c))
-      (λ none d. (let same : was ≡ with_shut was c = λ i x. phase-each c None was (λ y r. was y ≡ r) (sym (fine.linked c) ∙ ap by_of none) (λ y other. refl) x i in
-      subst (λ (w : OpenReductions). Fine p q E.tasks E.phase us [] w) same fine))
+  fine-close E us was c b fine = by_option (E.phase c) (λ o. let F : Expansion = elim o as (λ _. Expansion) [ None ↦ E | Some f ↦ phase_turned (combine_rows f c p.workers) c None E ] in Begins p.tasks F.tasks → Fine p q F.tasks F.phase us [] (with_shut was c))
+      (λ none d. subst (λ (w : OpenReductions). Fine p q E.tasks E.phase us [] w) (λ i x. phase-each c None was (λ y r. was y ≡ r) (sym (fine.linked c) ∙ ap by_of none) (λ y other. refl) x i) fine)
       (λ f is d. fine_shut E.tasks us E.phase was c f is fine d) b
 
   -- ---- a contribution is to come
@@ -127,14 +114,10 @@ module _ (p q : Program) (twins : AreTwins p q) (proper : Proper q) where
 
     -- the phase goes on
     module _ (f : OpenPhase) (is : phases c ≡ Some f) where
-      agrees : (o.valued ≡ true) × (o.by ≡ f.by)
-      agrees = opening.valued f.by (sym (fine.linked c) ∙ ap by_of is)
-
-      copies : f.copies ≡ o.copies
-      copies = some_is f.copies o.copies (sym (fine.owned c f is).partials ∙ opening.copies)
-
       pub fine_longer : Fine p q (ts ++ []) after (us ++ first_units o line) ls (with_opening was o)
       fine_longer =
+          let agrees = opening.valued f.by (sym (fine.linked c) ∙ ap by_of is) in
+          let copies = some_is f.copies o.copies (sym (fine.owned c f is).partials ∙ opening.copies) in
           subst₂ (λ (xs ys : List Lowered). Fine p q xs after ys ls (with_opening was o)) (sym (append-nil ts)) (sym (ap (λ v. us ++ cond v [] (init_row o.by line c ∷ [])) agrees.0 ∙ append-nil us)) (record {
             good = fine.good;
             logged = log-line p (length ts) phases ls c f (phase_at o line) is (sym agrees.1) copies (fine.owned c f is) apart (λ d g h. (fine.owned d g h).plain) fine.logged;
@@ -149,15 +132,12 @@ module _ (p q : Program) (twins : AreTwins p q) (proper : Proper q) where
       abbrev b_rows : List Lowered
       b_rows = begin_rows p.workers o line
 
-      b_stand : Stand p (length ts) b_rows
-      b_stand = begins-stand p ts b_rows b
-
       pub fine_begun : Fine p q (ts ++ b_rows) after (us ++ first_units o line) ls (with_opening was o)
-      fine_begun = record {
+      fine_begun = let b_stand = begins-stand p ts b_rows b in record {
         good = good-more p (length ts) (length (ts ++ b_rows)) fine.good (λ n new lt. elim (beginner p (length ts) o line b_stand n new (omega (arith, lt, length-append ts b_rows))) [
           | OfCopy early row ↦ (let w : Worker = record { 0 = n - length ts } in
               subst (IsGood p n) (sym row) (good_init p n o.by line (copy_at o.copies w.0) (copy_there c o.copies w opening.copies (omega (arith, new, early))).0))
-          | OfCell here row ↦ subst (IsGood p n) (sym row) (good_init p n o.by line c (there c o.copies opening.copies))
+          | OfCell here row ↦ subst (IsGood p n) (sym row) (good_init p n o.by line c (is-inside p c o.copies opening.copies))
         ]);
         logged = log-begin p (length ts) (length (ts ++ b_rows)) phases ls o line none b_stand (length-append ts b_rows) its apart (λ d g h. (fine.owned d g h).plain) come fine.logged;
         values = λ x h. later p ((length ts + p.workers) + length (first_units o line)) (length (ts ++ b_rows)) x (omega (arith, length-append ts b_rows, begin-length p (length ts) o line b_stand))
@@ -175,20 +155,14 @@ module _ (p q : Program) (twins : AreTwins p q) (proper : Proper q) where
 
   pub fine-open : (E : Expansion) (us ls : List Lowered) (was : OpenReductions) (o : PhaseOpening) (line : Line) → IsOrderlyOpening p was ls o → IsPlain p o.cell → (IsTrusted p → IsReduction out o.by) → Begins p.tasks (opened p.workers line E o).tasks → Begins q.tasks (us ++ first_units o line)
       → Fine p q E.tasks E.phase us ls was → Fine p q (opened p.workers line E o).tasks (opened p.workers line E o).phase (us ++ first_units o line) ls (with_opening was o)
-  fine-open E us ls was o line opening plain law b d fine = option-cases (E.phase o.cell) (begin_rows p.workers o line) (λ f. [])
-      (λ (rows : List Lowered). Begins p.tasks (E.tasks ++ rows) → Fine p q (E.tasks ++ rows) (with_phase o.cell (Some (phase_at o line)) E.phase) (us ++ first_units o line) ls (with_opening was o))
+  fine-open E us ls was o line opening plain law b d fine = by_option (E.phase o.cell)
+      (λ x. let rows : List Lowered = elim x as (λ _. List Lowered) [ None ↦ begin_rows p.workers o line | Some f ↦ [] ] in Begins p.tasks (E.tasks ++ rows) → Fine p q (E.tasks ++ rows) (with_phase o.cell (Some (phase_at o line)) E.phase) (us ++ first_units o line) ls (with_opening was o))
       (λ none begins. fine_begun E.tasks us ls ls E.phase was o line opening plain fine none opening.used law begins d)
       (λ f is begins. fine_longer E.tasks us ls ls E.phase was o line opening plain fine f is) b
 
   -- ---- a block's own task
 
   module _ (ts us : List Lowered) (l : Lowered) (ls : List Lowered) (phases : Phases) (was : OpenReductions) (orderly : IsOrderlyTask p was l) (b : Begins p.tasks (ts ++ l ∷ [])) (d : Begins q.tasks (us ++ direct l ∷ [])) (fine : Fine p q ts phases us (l ∷ ls) was) where
-    o_stand : Stand p (length ts) (l ∷ [])
-    o_stand = begins-stand p ts (l ∷ []) b
-
-    o_plain_stand : Stand q (length us) (direct l ∷ [])
-    o_plain_stand = begins-stand q us (direct l ∷ []) d
-
     contributes : (a : Access) → Contains l.accesses a → is_redux a.mode ≡ true → Contributes was l a.cell
     contributes a h mode = All-contains (λ (a : Access). is_redux a.mode ≡ true → Contributes was l a.cell) l.accesses a orderly.contributes h mode
 
@@ -202,26 +176,27 @@ module _ (p q : Program) (twins : AreTwins p q) (proper : Proper q) where
           (f.0, f.1, record { kernel = con.contribution.kernel; codelet = con.contribution.codelet; contributes = ap (contributes_of con.contribution.kernel) f.2 ∙ con.contribution.contributes; operand = con.contribution.operand });
     }
 
-    its_copies : All (HasItsCopies p (length ts)) l.accesses
-    its_copies = all-from (HasItsCopies p (length ts)) l.accesses (λ a h mode.
+    pub fine-own : Fine p q (ts ++ l ∷ []) phases (us ++ direct l ∷ []) ls was
+    fine-own =
+        let o_stand = begins-stand p ts (l ∷ []) b in
+        let o_plain_stand = begins-stand q us (direct l ∷ []) d in
+        let its_copies = all-from (HasItsCopies p (length ts)) l.accesses (λ a h mode.
         (let g = o_task.gives a.cell (subst (λ (x : Access). Contains l.accesses x) (redux-access a mode) h) in
         let partials = (fine.owned a.cell g.0 g.1).partials in
-        (ap (λ (o : Option Cell). is_some o) partials, λ w below. subst (HasValueBefore p (task (length ts))) (sym (copy-is p a.cell g.0.copies w partials)) (copy_given (length ts) a.cell g.0.by g.0.copies (fine.logged.start a.cell) (fine.logged.opened a.cell g.0 g.1) w.0 below))))
-
-    pub fine-own : Fine p q (ts ++ l ∷ []) phases (us ++ direct l ∷ []) ls was
-    fine-own = record {
-      good = good-more p (length ts) (length (ts ++ l ∷ [])) fine.good (λ i new lt. (let same : length ts ≡ i = omega (arith, new, lt, length-append ts (l ∷ [])) in
-          subst (λ (x : ℕ). IsGood p x (task_of p (task x))) same (subst (IsGood p (length ts)) (sym o_stand.0)
-          (good_own p q twins proper (length us) o_plain_stand.1 l o_plain_stand.0 (length ts) was fine.values contributes its_copies orderly.plain))));
-      logged = subst (λ x. Logged p x phases ls) (sym (length-append ts (l ∷ []))) (log-own p (length ts) phases l ls o_stand.0 o_task fine.logged);
-      values = λ c h. subst (λ x. HasValueBefore p (task x) c) (sym (length-append ts (l ∷ []))) (values-own p q twins proper (length us) o_plain_stand.1 l o_plain_stand.0 (length ts) o_stand.0 fine.values c (subst (λ x. HasValueBefore q (task x) c) (length-append us (direct l ∷ [])) h));
-      owned = fine.owned;
-      linked = fine.linked;
-      holds = λ trust.
-          subst₂ (Holds p q phases) (sym (contents-next p (length ts) (length (ts ++ l ∷ [])) (length-append ts (l ∷ [])))) (sym (contents-next q (length us) (length (us ++ direct l ∷ [])) (length-append us (direct l ∷ []))))
-          (elim (cases_Bool (list_any (λ (a : Access). is_redux a.mode) l.accesses)) [
-            | inl any ↦ (let a = list_any-some (λ (a : Access). is_redux a.mode) l.accesses any in
-                holds-gift p q twins phases fine.owned apart (length ts) (length us) (fine.holds trust) l o_stand.0 o_plain_stand.0 o_task trust o_stand.1 (All-get_or (FitsCodelet q) q.tasks (length us) no_task o_plain_stand.1 proper.codelets) a.0 a.1 a.2)
-            | inr none ↦ holds-beside p q twins phases fine.owned apart (length ts) (length us) (fine.holds trust) l o_stand.0 o_plain_stand.0 o_task none
-          ]);
-    }
+        (ap (λ (o : Option Cell). is_some o) partials, λ w below. subst (HasValueBefore p (task (length ts))) (sym (copy-is p a.cell g.0.copies w partials)) (copy_given (length ts) a.cell g.0.by g.0.copies (fine.logged.start a.cell) (fine.logged.opened a.cell g.0 g.1) w.0 below)))) in
+        record {
+          good = good-more p (length ts) (length (ts ++ l ∷ [])) fine.good (λ i new lt. (let same : length ts ≡ i = omega (arith, new, lt, length-append ts (l ∷ [])) in
+              subst (λ (x : ℕ). IsGood p x (task_of p (task x))) same (subst (IsGood p (length ts)) (sym o_stand.0)
+              (good_own p q twins proper (length us) o_plain_stand.1 l o_plain_stand.0 (length ts) was fine.values contributes its_copies orderly.plain))));
+          logged = subst (λ x. Logged p x phases ls) (sym (length-append ts (l ∷ []))) (log-own p (length ts) phases l ls o_stand.0 o_task fine.logged);
+          values = λ c h. subst (λ x. HasValueBefore p (task x) c) (sym (length-append ts (l ∷ []))) (values-own p q twins proper (length us) o_plain_stand.1 l o_plain_stand.0 (length ts) o_stand.0 fine.values c (subst (λ x. HasValueBefore q (task x) c) (length-append us (direct l ∷ [])) h));
+          owned = fine.owned;
+          linked = fine.linked;
+          holds = λ trust.
+              subst₂ (Holds p q phases) (sym (contents-next p (length ts) (length (ts ++ l ∷ [])) (length-append ts (l ∷ [])))) (sym (contents-next q (length us) (length (us ++ direct l ∷ [])) (length-append us (direct l ∷ []))))
+              (elim (cases_Bool (list_any (λ (a : Access). is_redux a.mode) l.accesses)) [
+                | inl any ↦ (let a = list_any-some (λ (a : Access). is_redux a.mode) l.accesses any in
+                    holds-gift p q twins phases fine.owned apart (length ts) (length us) (fine.holds trust) l o_stand.0 o_plain_stand.0 o_task trust o_stand.1 (All-get_or (FitsCodelet q) q.tasks (length us) no_task o_plain_stand.1 proper.codelets) a.0 a.1 a.2)
+                | inr none ↦ holds-beside p q twins phases fine.owned apart (length ts) (length us) (fine.holds trust) l o_stand.0 o_plain_stand.0 o_task none
+              ]);
+        }

@@ -45,49 +45,54 @@ pub record IsGood (p : Program) (n : ℕ) (l : Lowered) : Type 0 where
   pub copies : All (HasItsCopies p n) l.accesses
   pub plain : kernel_of l.codelet ≡ Some Deliver → All (λ a. IsPlain p a.cell) l.accesses
 
+-- the task doesn't deliver
+abbrev pub IsOther : Lowered → Type 0
+IsOther l = kernel_of l.codelet ≡ Some Deliver → ⊥
+
 -- ---- tasks of phases
 
 alone : {X : Type 0} (P : X → X → Type 0) (x : X) → AllPairs P (x ∷ [])
 alone P x i j d h k = absurd (omega arith)
+
+-- the tasks of phases don't deliver
+pub none-init : (by : Reduction) (line : Line) (c : Cell) → IsOther (init_row by line c)
+none-init by line c = elim by as (λ r. IsOther (init_row r line c)) [ Plus ↦ (λ e. absurd (cc)) | Least ↦ (λ e. absurd (cc)) ]
+
+pub none-combine : (by : Reduction) (c : Cell) (line : Line) (q : Cell) → IsOther (combine_row by c line q)
+none-combine by c line q = elim by as (λ r. IsOther (combine_row r c line q)) [ Plus ↦ (λ e. absurd (cc)) | Least ↦ (λ e. absurd (cc)) ]
 
 -- two operands on one cell only read it
 abbrev pub ReadOnly : Access → Access → Type 0
 ReadOnly a b = same_cell a.cell b.cell ≡ true → (a.mode ≡ R) × (b.mode ≡ R)
 
 pub good_init : (p : Program) (n : ℕ) (by : Reduction) (line : Line) (c : Cell) → c.0 < length p.cells → IsGood p n (init_row by line c)
-good_init p n by line c inside = by_reduction by
-  where
-    cells_in : All (λ (a : Access). a.cell.0 < length p.cells) (access W c ∷ [])
-    cells_in = All-from_recursion (λ (a : Access). a.cell.0 < length p.cells) (access W c ∷ []) (inside, tt)
-
-    copies_in : All (HasItsCopies p n) (access W c ∷ [])
-    copies_in = All-from_recursion (HasItsCopies p n) (access W c ∷ []) ((λ h. absurd (false≢true h)), tt)
-
-    values_in : All (λ (a : Access). reads_value a.mode ≡ true → HasValueBefore p (task n) a.cell) (access W c ∷ [])
-    values_in = All-from_recursion (λ (a : Access). reads_value a.mode ≡ true → HasValueBefore p (task n) a.cell) (access W c ∷ []) ((λ h. absurd (false≢true h)), tt)
-
-    by_reduction : (by : Reduction) → IsGood p n (init_row by line c)
-    by_reduction Plus = record { cells = cells_in; copies = copies_in; plain = λ e. absurd (cc); fits = record { kernel = init_of Plus; codelet = refl; operands = refl; modes = MayHaveModes.Own refl }; unaliased = alone ReadOnly (access W c); values = values_in }
-    by_reduction Least = record { cells = cells_in; copies = copies_in; plain = λ e. absurd (cc); fits = record { kernel = init_of Least; codelet = refl; operands = refl; modes = MayHaveModes.Own refl }; unaliased = alone ReadOnly (access W c); values = values_in }
+good_init p n by line c inside = record {
+  cells = All-from_recursion (λ (a : Access). a.cell.0 < length p.cells) (access W c ∷ []) (inside, tt);
+  fits = elim by as (λ r. FitsCodelet p (init_row r line c)) [
+    | Plus ↦ record { kernel = init_of Plus; codelet = refl; operands = refl; modes = MayHaveModes.Own refl }
+    | Least ↦ record { kernel = init_of Least; codelet = refl; operands = refl; modes = MayHaveModes.Own refl }
+  ];
+  unaliased = alone ReadOnly (access W c);
+  values = All-from_recursion (λ (a : Access). reads_value a.mode ≡ true → HasValueBefore p (task n) a.cell) (access W c ∷ []) ((λ h. absurd (false≢true h)), tt);
+  copies = All-from_recursion (HasItsCopies p n) (access W c ∷ []) ((λ h. absurd (false≢true h)), tt);
+  plain = λ e. absurd (none-init by line c e);
+}
 
 pub good_combine : (p : Program) (n : ℕ) (by : Reduction) (c : Cell) (line : Line) (q : Cell) → q.0 < length p.cells → c.0 < length p.cells → dims_of p q ≡ dims_of p c → same_cell q c ≡ false → HasValueBefore p (task n) q → HasValueBefore p (task n) c → IsGood p n (combine_row by c line q)
-good_combine p n by c line q iq ic dims apart gq gc = by_reduction by
-  where
-    cells_in : All (λ (a : Access). a.cell.0 < length p.cells) (access R q ∷ access RW c ∷ [])
-    cells_in = All-from_recursion (λ (a : Access). a.cell.0 < length p.cells) (access R q ∷ access RW c ∷ []) (iq, (ic, tt))
-
-    copies_in : All (HasItsCopies p n) (access R q ∷ access RW c ∷ [])
-    copies_in = All-from_recursion (HasItsCopies p n) (access R q ∷ access RW c ∷ []) ((λ h. absurd (false≢true h)), ((λ h. absurd (false≢true h)), tt))
-
-    pair : AllPairs ReadOnly (access R q ∷ access RW c ∷ [])
-    pair = AllPairs-cons ReadOnly (access R q) (access RW c ∷ []) (All-from_recursion (ReadOnly (access R q)) (access RW c ∷ []) ((λ same. absurd (false≢true (sym apart ∙ same))), tt)) (alone ReadOnly (access RW c))
-
-    values_in : All (λ (a : Access). reads_value a.mode ≡ true → HasValueBefore p (task n) a.cell) (access R q ∷ access RW c ∷ [])
-    values_in = All-from_recursion (λ (a : Access). reads_value a.mode ≡ true → HasValueBefore p (task n) a.cell) (access R q ∷ access RW c ∷ []) ((λ h. gq), ((λ h. gc), tt))
-
-    by_reduction : (by : Reduction) → IsGood p n (combine_row by c line q)
-    by_reduction Plus = record { cells = cells_in; copies = copies_in; plain = λ e. absurd (cc); fits = record { kernel = combine_of Plus; codelet = refl; operands = same-itself (dims_of p q) (dims_of p c) dims; modes = MayHaveModes.Own refl }; unaliased = pair; values = values_in }
-    by_reduction Least = record { cells = cells_in; copies = copies_in; plain = λ e. absurd (cc); fits = record { kernel = combine_of Least; codelet = refl; operands = same-itself (dims_of p q) (dims_of p c) dims; modes = MayHaveModes.Own refl }; unaliased = pair; values = values_in }
+good_combine p n by c line q iq ic dims apart gq gc =
+    let two = access R q ∷ access RW c ∷ [] in
+    let alike = same-itself (dims_of p q) (dims_of p c) dims in
+    record {
+      cells = All-from_recursion (λ (a : Access). a.cell.0 < length p.cells) two (iq, (ic, tt));
+      fits = elim by as (λ r. FitsCodelet p (combine_row r c line q)) [
+        | Plus ↦ record { kernel = combine_of Plus; codelet = refl; operands = alike; modes = MayHaveModes.Own refl }
+        | Least ↦ record { kernel = combine_of Least; codelet = refl; operands = alike; modes = MayHaveModes.Own refl }
+      ];
+      unaliased = AllPairs-cons ReadOnly (access R q) (access RW c ∷ []) (All-from_recursion (ReadOnly (access R q)) (access RW c ∷ []) ((λ same. absurd (false≢true (sym apart ∙ same))), tt)) (alone ReadOnly (access RW c));
+      values = All-from_recursion (λ (a : Access). reads_value a.mode ≡ true → HasValueBefore p (task n) a.cell) two ((λ h. gq), ((λ h. gc), tt));
+      copies = All-from_recursion (HasItsCopies p n) two ((λ h. absurd (false≢true h)), ((λ h. absurd (false≢true h)), tt));
+      plain = λ e. absurd (none-combine by c line q e);
+    }
 
 -- ---- a block's own tasks
 
@@ -96,9 +101,6 @@ direct-same a h = ap (λ b. let m = cond b RW a.mode in let x : Access = record 
 
 direct-read : (m : Mode) → direct_mode m ≡ R → m ≡ R
 direct-read m = cond_both (is_redux m) RW m (λ x. x ≡ R → m ≡ R) (λ e h. absurd (cc)) (λ e h. h)
-
-direct-reads : (m : Mode) → reads_value m ≡ true → reads_value (direct_mode m) ≡ true
-direct-reads m h = cond_both (is_redux m) RW m (λ x. reads_value x ≡ true) (λ e. refl) (λ e. h)
 
 direct-data : (m : Mode) → not (is_scratch (direct_mode m)) ≡ not (is_scratch m)
 direct-data m = cond_both (is_redux m) RW m (λ x. not (is_scratch x) ≡ not (is_scratch m)) (λ e. ap (λ x. not (is_scratch x)) (sym (redux-is m e))) (λ e. refl)
@@ -121,12 +123,10 @@ direct-itself l none =
 
 pub filter-direct : (xs : List Access) → filter (λ a. not (is_scratch a.mode)) (map direct_access xs) ≡ map direct_access (filter (λ a. not (is_scratch a.mode)) xs)
 filter-direct [] = refl
-filter-direct (x ∷ xs) = by_test (not (is_scratch x.mode)) (direct-data x.mode) (filter-direct xs)
-  where
-    by_test : (b : Bool) → not (is_scratch (direct_mode x.mode)) ≡ b → filter (λ a. not (is_scratch a.mode)) (map direct_access xs) ≡ map direct_access (filter (λ a. not (is_scratch a.mode)) xs)
-        → cond (not (is_scratch (direct_mode x.mode))) (direct_access x ∷ filter (λ a. not (is_scratch a.mode)) (map direct_access xs)) (filter (λ a. not (is_scratch a.mode)) (map direct_access xs)) ≡ map direct_access (cond b (x ∷ filter (λ a. not (is_scratch a.mode)) xs) (filter (λ a. not (is_scratch a.mode)) xs))
-    by_test true e rest = ap (λ b. cond b (direct_access x ∷ filter (λ a. not (is_scratch a.mode)) (map direct_access xs)) (filter (λ a. not (is_scratch a.mode)) (map direct_access xs))) e ∙ ap (λ ys. direct_access x ∷ ys) rest
-    by_test false e rest = ap (λ b. cond b (direct_access x ∷ filter (λ a. not (is_scratch a.mode)) (map direct_access xs)) (filter (λ a. not (is_scratch a.mode)) (map direct_access xs))) e ∙ rest
+filter-direct (x ∷ xs) =
+    let rest = filter (λ (a : Access). not (is_scratch a.mode)) xs in
+    (λ i. cond (direct-data x.mode i) (direct_access x ∷ filter-direct xs i) (filter-direct xs i))
+    ∙ elim (not (is_scratch x.mode)) as (λ b. cond b (direct_access x ∷ map direct_access rest) (map direct_access rest) ≡ map direct_access (cond b (x ∷ rest) rest)) [ true ↦ refl | false ↦ refl ]
 
 -- a cell with a value after one task more has it before that task, or by it
 values-row : (p q : Program) (n m : ℕ) (c : Cell) → ((c : Cell) → HasValueBefore q (task m) c → HasValueBefore p (task n) c) → (gives_value (task_of q (task m)) c ≡ true → HasValueBefore p (task (n + 1)) c) → HasValueBefore q (task (m + 1)) c → HasValueBefore p (task (n + 1)) c
@@ -148,21 +148,18 @@ module _ (p q : Program) (twins : AreTwins p q) (proper : Proper q) (m : ℕ) (i
   good_own n opens values contributes copies plain = record {
     cells = All-unmap (λ (a : Access). a.cell.0 < length p.cells) direct_access l.accesses (subst₂ (λ (x : Lowered) (is : List CellInfo). All (λ (a : Access). a.cell.0 < length is) x.accesses) row (sym twins.cells)
         (All-get_or (λ (x : Lowered). All (λ (a : Access). a.cell.0 < length q.cells) x.accesses) q.tasks m no_task inside proper.cells.named));
-    fits = record { kernel = fit.kernel; codelet = fit.codelet; operands = ap (fits fit.kernel l.args) (sym same_dims) ∙ fit.operands; modes = its_modes (list_any (λ (a : Access). is_redux a.mode) l.accesses) refl };
+    fits = record { kernel = fit.kernel; codelet = fit.codelet; operands = ap (fits fit.kernel l.args) (sym (map-map (λ (a : Access). dims_of q a.cell) direct_access l.accesses ∙ map-same (λ (a : Access). dims_of q a.cell) (λ (a : Access). dims_of p a.cell) l.accesses (λ a h. sym (twin-dims p q twins a.cell)))) ∙ fit.operands; modes = its_modes (list_any (λ (a : Access). is_redux a.mode) l.accesses) refl };
     unaliased = λ i j d before within same.
         let both = subst₂ ReadOnly (get_or-map direct_access (data_operands l) i d (direct_access d) (omega (arith, before, within))) (get_or-map direct_access (data_operands l) j d (direct_access d) within)
-        (q_pairs i j (direct_access d) before (omega (arith, within, length-map (data_operands l) direct_access))) same in
+        (subst (AllPairs ReadOnly) (filter-direct l.accesses) (subst (λ (x : Lowered). IsUnaliased x) row (All-get_or IsUnaliased q.tasks m no_task inside proper.unaliased)) i j (direct_access d) before (omega (arith, within, length-map (data_operands l) direct_access))) same in
         (direct-read (get_or (data_operands l) i d).mode both.0, direct-read (get_or (data_operands l) j d).mode both.1);
-    values = all-from (λ (a : Access). reads_value a.mode ≡ true → HasValueBefore p (task n) a.cell) l.accesses (λ a h reads. values a.cell (plain-value a h (direct-reads a.mode reads)));
+    values = all-from (λ (a : Access). reads_value a.mode ≡ true → HasValueBefore p (task n) a.cell) l.accesses (λ a h reads. values a.cell (plain-value a h (cond_both (is_redux a.mode) RW a.mode (λ x. reads_value x ≡ true) (λ e. refl) (λ e. reads))));
     copies = copies;
     plain = λ e. plain;
   }
     where
       fit : FitsCodelet q (direct l)
       fit = subst (FitsCodelet q) row (All-get_or (FitsCodelet q) q.tasks m no_task inside proper.codelets)
-
-      same_dims : map (λ (a : Access). dims_of q a.cell) (map direct_access l.accesses) ≡ map (λ (a : Access). dims_of p a.cell) l.accesses
-      same_dims = map-map (λ (a : Access). dims_of q a.cell) direct_access l.accesses ∙ map-same (λ (a : Access). dims_of q a.cell) (λ (a : Access). dims_of p a.cell) l.accesses (λ a h. sym (twin-dims p q twins a.cell))
 
       its_modes : (b : Bool) → list_any (λ (a : Access). is_redux a.mode) l.accesses ≡ b → MayHaveModes fit.kernel (map (λ (a : Access). a.mode) l.accesses)
       its_modes false none = subst (λ (x : Lowered). MayHaveModes fit.kernel (map (λ (a : Access). a.mode) x.accesses)) (direct-itself l none) fit.modes
@@ -171,9 +168,6 @@ module _ (p q : Program) (twins : AreTwins p q) (proper : Proper q) (m : ℕ) (i
           let con = contributes found.0 found.1 found.2 in
           let one = some_is con.contribution.kernel fit.kernel (sym con.contribution.codelet ∙ fit.codelet) in
           MayHaveModes.Contributing con.by (ap (λ (k : Kernel). contributes_of k con.by) (sym one) ∙ con.contribution.contributes) (subst (λ (k : Kernel). writes_one k) one con.one) (con.modes ∙ ap (modes_writing_by Redux) one)
-
-      q_pairs : AllPairs ReadOnly (map direct_access (data_operands l))
-      q_pairs = subst (AllPairs ReadOnly) (filter-direct l.accesses) (subst (λ (x : Lowered). IsUnaliased x) row (All-get_or IsUnaliased q.tasks m no_task inside proper.unaliased))
 
   -- what has a value after it has one in the program with phases
   pub values-own : (n : ℕ) → task_of p (task n) ≡ l → ((c : Cell) → HasValueBefore q (task m) c → HasValueBefore p (task n) c) → (c : Cell) → HasValueBefore q (task (m + 1)) c → HasValueBefore p (task (n + 1)) c
@@ -190,8 +184,7 @@ module _ (p q : Program) (twins : AreTwins p q) (proper : Proper q) (m : ℕ) (i
 -- the same after the unit that both programs have
 pub values-units : (p q : Program) (n m : ℕ) (o : PhaseOpening) (line : Line) → Stand p n (first_units o line) → Stand q m (first_units o line) → ((c : Cell) → HasValueBefore q (task m) c → HasValueBefore p (task n) c)
     → (c : Cell) → HasValueBefore q (task (m + length (first_units o line))) c → HasValueBefore p (task (n + length (first_units o line))) c
-values-units p q n m o line s r values c = by_valued o.valued s r
-  where
-    by_valued : (v : Bool) → Stand p n (cond v [] (init_row o.by line o.cell ∷ [])) → Stand q m (cond v [] (init_row o.by line o.cell ∷ [])) → HasValueBefore q (task (m + length (cond v [] (init_row o.by line o.cell ∷ [])))) c → HasValueBefore p (task (n + length (cond v [] (init_row o.by line o.cell ∷ [])))) c
-    by_valued true s r h = later p n (n + 0) c (omega arith) (values c (h.0, omega (arith, h.1), h.2))
-    by_valued false s r h = values-row p q n m c values (λ gives. (task n, omega arith, ap (λ (x : Lowered). gives_value x c) (s.0 ∙ sym r.0) ∙ gives)) h
+values-units p q n m o line s r values c =
+    cond_both {A = List Lowered} o.valued [] (init_row o.by line o.cell ∷ []) (λ ls. Stand p n ls → Stand q m ls → HasValueBefore q (task (m + length ls)) c → HasValueBefore p (task (n + length ls)) c)
+    (λ e s r h. later p n (n + 0) c (omega arith) (values c (h.0, omega (arith, h.1), h.2)))
+    (λ e s r h. values-row p q n m c values (λ gives. (task n, omega arith, ap (λ (x : Lowered). gives_value x c) (s.0 ∙ sym r.0) ∙ gives)) h) s r

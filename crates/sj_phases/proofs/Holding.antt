@@ -1,9 +1,9 @@
 -- What the cells denote, with contributions in partial copies, is what they hold by the same blocks without phases.
-use Rattle.sj_phases.proofs.Words.{[], Access, access, after_task, ap, arith, Array, begin_rows, Cell, cell_info, Codelet, combine_rows, combined, cond, Contains, Contents, copy_at, data_operands, dims_of, direct, direct_access, false, filter, find, first_units, FitsCodelet, found, has_cell, held_in, init_rows, inl, inr, is_in_order, is_redux, is_scratch, is_written, IsContribution, IsCopyOf, IsPlain, IsReduction, IsTile, Kernel, kernel_of, length, Line, List, list_any, Lowered, map, None, not, OpenPhase, operand, out, phase_at, PhaseOpening, Program, Redux, refl, result_of, results, RW, same_cell, Some, starts_as_zeros, subst, sym, task, task_of, true, unit_of, with_phase, worked_on, Worker, written_cells, zeros, zip, ℕ, ◌++◌, ◌<◌, ◌||◌, ◌∙◌, ◌∷◌, ◌≡◌, ◌≢◌}
+use Rattle.sj_phases.proofs.Words.{[], Access, access, after_task, ap, arith, Array, begin_rows, Cell, cell_info, Codelet, combine_rows, combined, cond, Contains, Contents, copy_at, data_operands, dims_of, direct, direct_access, false, filter, find, first_units, FitsCodelet, found, has_cell, held_in, init_rows, inl, inr, is_in_order, is_redux, is_scratch, is_written, IsCopyOf, IsPlain, IsReduction, IsTile, Kernel, kernel_of, length, Line, List, list_any, Lowered, map, None, not, OpenPhase, operand, out, phase_at, PhaseOpening, Program, refl, result_of, results, RW, same_cell, Some, starts_as_zeros, subst, sym, task, task_of, true, unit_of, with_phase, worked_on, Worker, written_cells, zeros, zip, ℕ, ◌++◌, ◌<◌, ◌||◌, ◌∙◌, ◌∷◌, ◌≡◌, ◌≢◌}
 use Rattle.sj_codelet.proofs.{NewArrays.out-makes_tiles, Table.codelet_of-kernel}
 use Rattle.std.proofs.lemmas.{Bool.cond_both, Bool.false_from_ne_true, List.Elements.Contains-append_left, List.map-append}
-use Rattle.sj_core.proofs.{CellLists.same_cell-refl, Copies.direct-cell, Folding.after_task-other, Folding.held-append, Folding.held_over, Folding.held_over-other, Folding.map-same, Modes.reads_isn't_scratch, Modes.written_isn't_scratch, Readiness.Contains-filter, Readiness.Contains-from_filter, Sharing.operand_for, Sized.AreSized, Sized.Fills, Swapping.first_ins, Swapping.Updates, Updating.first-is, Updating.last-is, Values.results-complete}
-use Rattle.sj_phases.proofs.{Adding.added, Adding.all-sized, Adding.denotes-more, Adding.others-kept, Adding.result-more, Adding.sized, Adding.SizedCopies, Adding.updates, Beginning.AreApart, Combined.all_workers, Combined.all_workers-below, Combined.denoted, Combined.denoted-closed, Combined.denoted-open, Combined.denoted-same, Combined.IsTrusted, Combined.Phases, Combined.with_all, Contents.contents_before, Contents.first_worker, Folding.after_row, Folding.after_rows, Folding.after_rows-append, Good.AreTwins, Good.direct-itself, Good.direct-same, Good.map-itself, Good.none-redux, Good.twin-dims, Lists.by_option, Lists.filter-last, Lists.first-has, Lists.more-has, Logging.IsOwnTask, Logging.none_isn't, Logging.phase-other, Logging.phase-own, Logging.redux-access, Logging.some_is, Logging.unlike, Owning.is-copy, Owning.IsOwn, Phasing.closed-others, Phasing.closed-value, Phasing.each_cell, Phasing.inits-copies, Phasing.inits-others, Phasing.IsBare, Phasing.units-others, Phasing.units-same}
+use Rattle.sj_core.proofs.{CellLists.same_cell-refl, Copies.direct-cell, Folding.after_task-other, Folding.held-append, Folding.held_over, Folding.held_over-other, Folding.map-same, Modes.reads_isn't_scratch, Modes.written_isn't_scratch, Readiness.Contains-filter, Readiness.Contains-from_filter, Sharing.operand_for, Sized.AreSized, Sized.Fills, Swapping.first_ins, Updating.first-is, Updating.last-is, Values.results-complete}
+use Rattle.sj_phases.proofs.{Adding.added, Adding.all-sized, Adding.denotes-more, Adding.others-kept, Adding.result-more, Adding.sized, Adding.SizedCopies, Adding.updates, Beginning.AreApart, Combined.all_workers, Combined.all_workers-below, Combined.denoted, Combined.denoted-closed, Combined.denoted-open, Combined.denoted-same, Combined.IsTrusted, Combined.Phases, Combined.with_all, Contents.contents_before, Contents.first_worker, Folding.after_row, Folding.after_rows, Folding.after_rows-append, Good.AreTwins, Good.direct-itself, Good.direct-same, Good.map-itself, Good.none-redux, Good.twin-dims, Lists.by_option, Lists.filter-last, Lists.first-has, Lists.more-has, Logging.IsOwnTask, Logging.none_isn't, Logging.phase-other, Logging.phase-own, Logging.redux-access, Logging.some_is, Logging.unlike, Owning.is-copy, Owning.IsOwn, Phasing.closed-others, Phasing.combines-value, Phasing.each_cell, Phasing.inits-copies, Phasing.inits-others, Phasing.IsBare, Phasing.units-others, Phasing.units-same}
 use Rattle.sj_base.proofs.SameIds.{same_cell-is, same_cell-turned}
 
 -- each cell that is no partial copy denotes what it holds in the program without phases
@@ -31,7 +31,7 @@ module _ (p q : Program) (phases : Phases) (owned : AreOwned p phases) (k j : Co
       let after = with_phase c None phases in
       let left = after_rows p k (combine_rows f c p.workers) in
       each_cell c (λ d. IsPlain p d → denoted p after left d ≡ held_in q j d)
-      (λ plain. denoted-closed p after left c (phase-own c None phases) ∙ closed-value p k f c (bare p c c f.copies plain (owned c f is).partials) ∙ sym (denoted-open p phases k c f is) ∙ holds c plain)
+      (λ plain. denoted-closed p after left c (phase-own c None phases) ∙ combines-value p k f c (all_workers p) (λ w h. bare p c c f.copies plain (owned c f is).partials w (all_workers-below p w h)) ∙ sym (denoted-open p phases k c f is) ∙ holds c plain)
       (λ d other plain. denoted-same p phases after k left d (phase-other c None phases d other) (closed-others p k f c d other)
       (λ g there w below. closed-others p k f c (copy_at g.copies w) (bare p c d g.copies (owned c f is).plain (owned d g there).partials w below)) ∙ holds d plain)
 
@@ -85,6 +85,11 @@ module _ (p q : Program) (twins : AreTwins p q) (phases : Phases) (owned : AreOw
       (λ v lt. false_from_ne_true (same_cell (copy_at o.copies v) (copy_at g.copies w)) (λ h. copies-apart p apart o.cell d o.copies g.copies v w other own.partials (owned d g there).partials lt below (same_cell-is (copy_at o.copies v) (copy_at g.copies w) h))))
       ∙ holds d plain ∙ sym (units-others q j o line d other))
 
+-- one array put into a cell over what it holds
+by_one : (c : Cell) (ys : List Array) → length ys ≡ 1 → (below : Array) → held_over (zip (c ∷ []) ys) c below ≡ operand ys 0
+by_one c [] e below = absurd (omega (arith, e))
+by_one c (y ∷ ys) e below = ap (λ b. elim (cond b (Some (c, y)) (find (λ (entry : Cell × Array). same_cell entry.0 c) (zip [] ys))) as (λ _. Array) [ None ↦ below | Some entry ↦ entry.1 ]) (same_cell-refl c)
+
 -- ---- a block's own task
 
 module _ (p q : Program) (twins : AreTwins p q) (phases : Phases) (owned : AreOwned p phases) (apart : AreApart p) (n m : ℕ) (holds : Holds p q phases (contents_before p n) (contents_before q m)) (l : Lowered)
@@ -120,19 +125,15 @@ module _ (p q : Program) (twins : AreTwins p q) (phases : Phases) (owned : AreOw
     abbrev xs : List Array
     xs = out l.codelet l.args (map (found p first_worker (held_in p k)) l.accesses)
 
-    left_plain : newj ≡ zip cs xs ++ j
-    left_plain =
-        ap (after_row q j) (plain_row ∙ direct-itself l none)
-        ∙ ap (λ (ds : List Cell). zip ds (out l.codelet l.args (map (found q first_worker (held_in q j)) l.accesses)) ++ j) (map-same (worked_on q first_worker) (worked_on p first_worker) (filter (λ a. is_written a.mode) l.accesses) (λ a h.
-        (let direct = none-redux l none a (Contains-from_filter (λ (b : Access). is_written b.mode) l.accesses a h) in direct-cell q first_worker a direct ∙ sym (direct-cell p first_worker a direct))))
-        ∙ ap (λ (ys : List Array). zip cs (out l.codelet l.args ys) ++ j) (map-same (found q first_worker (held_in q j)) (found p first_worker (held_in p k)) l.accesses (λ a h. found-alike a h (none-redux l none a h)))
-
     -- what a cell holds afterwards, by what it held
     over : (d : Cell) → held_in p new d ≡ held_over (zip cs xs) d (held_in p k d)
     over d = ap (λ (z : Contents). held_in p z d) (ap (after_row p k) row) ∙ held-append p (zip cs xs) k d
 
     over_plain : (d : Cell) → held_in q newj d ≡ held_over (zip cs xs) d (held_in q j d)
-    over_plain d = ap (λ (z : Contents). held_in q z d) left_plain ∙ held-append q (zip cs xs) j d
+    over_plain d = ap (λ (z : Contents). held_in q z d) (ap (after_row q j) (plain_row ∙ direct-itself l none)
+        ∙ ap (λ (ds : List Cell). zip ds (out l.codelet l.args (map (found q first_worker (held_in q j)) l.accesses)) ++ j) (map-same (worked_on q first_worker) (worked_on p first_worker) (filter (λ a. is_written a.mode) l.accesses) (λ a h.
+        (let direct = none-redux l none a (Contains-from_filter (λ (b : Access). is_written b.mode) l.accesses a h) in direct-cell q first_worker a direct ∙ sym (direct-cell p first_worker a direct))))
+        ∙ ap (λ (ys : List Array). zip cs (out l.codelet l.args ys) ++ j) (map-same (found q first_worker (held_in q j)) (found p first_worker (held_in p k)) l.accesses (λ a h. found-alike a h (none-redux l none a h)))) ∙ held-append q (zip cs xs) j d
 
     -- a cell that it writes is none of an open phase
     unwritten : (d : Cell) → ((a : Access) → Contains l.accesses a → Contains (data_operands l) a → a.cell ≢ d) → has_cell cs d ≡ false
@@ -152,104 +153,49 @@ module _ (p q : Program) (twins : AreTwins p q) (phases : Phases) (owned : AreOw
   -- ---- one that contributes
 
   module _ (trust : IsTrusted p) (inside : n < length p.tasks) (fit : FitsCodelet q (task_of q (task m))) (a : Access) (here : Contains l.accesses a) (mode : is_redux a.mode ≡ true) where
-    abbrev c : Cell
-    c = a.cell
-
-    is_redux_mode : a.mode ≡ Redux
-    is_redux_mode = ap (λ (b : Access). b.mode) (redux-access a mode)
-
-    gift : (f : OpenPhase) × (phases c ≡ Some f) × IsContribution f.by c l
-    gift = own.gives c (subst (λ (b : Access). Contains l.accesses b) (redux-access a mode) here)
-
-    abbrev f : OpenPhase
-    f = gift.0
-
-    abbrev con : IsContribution f.by c l
-    con = gift.2
-
-    its : IsOwn p c f.copies
-    its = owned c f gift.1
-
-    among : Contains (task_of p (task n)).accesses a
-    among = subst (λ (x : Lowered). Contains x.accesses a) (sym row) here
-
-    codelet : kernel_of (task_of p (task n)).codelet ≡ Some con.kernel
-    codelet = ap (λ (x : Lowered). kernel_of x.codelet) row ∙ con.codelet
-
-    abbrev up : Updates p (task n) first_worker (worked_on p first_worker a)
-    up = updates p trust n inside a among is_redux_mode f its.partials con.kernel codelet con.contributes
-
-    abbrev ins : List Array
-    ins = first_ins p (task n) first_worker (worked_on p first_worker a) up (held_in p k)
-
-    -- the operands before the last one, which contributes, are only read, and found alike
-    ends : l.accesses ≡ up.before ++ a ∷ []
-    ends =
-        ap (λ (x : Lowered). x.accesses) (sym row) ∙ up.accesses
-        ∙ ap (λ (b : Access). up.before ++ b ∷ []) (last-is p trust.proper (task n) inside a among (ap is_in_order is_redux_mode))
-
-    plain_accesses : (task_of q (task m)).accesses ≡ up.before ++ access RW c ∷ []
-    plain_accesses =
-        ap (λ (x : Lowered). x.accesses) plain_row ∙ ap (map direct_access) ends ∙ map-append direct_access up.before (a ∷ [])
+    pub holds-gift : Holds p q phases new newj
+    holds-gift =
+        let c = a.cell in
+        let is_redux_mode = ap (λ (b : Access). b.mode) (redux-access a mode) in
+        let gift = own.gives c (subst (λ (b : Access). Contains l.accesses b) (redux-access a mode) here) in
+        let f = gift.0 in
+        let con = gift.2 in
+        let its = owned c f gift.1 in
+        let among = subst (λ (x : Lowered). Contains x.accesses a) (sym row) here in
+        let codelet : kernel_of (task_of p (task n)).codelet ≡ Some con.kernel = ap (λ (x : Lowered). kernel_of x.codelet) row ∙ con.codelet in
+        let up = updates p trust n inside a among is_redux_mode f its.partials con.kernel codelet con.contributes in
+        let ins = first_ins p (task n) first_worker (worked_on p first_worker a) up (held_in p k) in
+        -- the operands before the last one, which contributes, are only read, and found alike
+        let ends : l.accesses ≡ up.before ++ a ∷ [] = ap (λ (x : Lowered). x.accesses) (sym row) ∙ up.accesses
+        ∙ ap (λ (b : Access). up.before ++ b ∷ []) (last-is p trust.proper (task n) inside a among (ap is_in_order is_redux_mode)) in
+        let plain_accesses : (task_of q (task m)).accesses ≡ up.before ++ access RW c ∷ [] = ap (λ (x : Lowered). x.accesses) plain_row ∙ ap (map direct_access) ends ∙ map-append direct_access up.before (a ∷ [])
         ∙ ap (λ (bs : List Access). bs ++ direct_access a ∷ []) (map-itself direct_access up.before (λ b h. direct-same b (up.direct b h)))
-        ∙ ap (λ x. let y = cond x RW a.mode in let b : Access = record { mode = y; cell = c } in up.before ++ b ∷ []) mode
-
-    plain_written : written_cells q (task m) first_worker ≡ c ∷ []
-    plain_written =
-        ap (λ (bs : List Access). map (worked_on q first_worker) (filter (λ b. is_written b.mode) bs)) plain_accesses
-        ∙ ap (map (worked_on q first_worker)) (filter-last (λ b. is_written b.mode) up.before (access RW c) (λ b h. elim (first-is p trust.proper (task n) inside a among (ap is_in_order is_redux_mode) b h) [ inl e ↦ ap is_written e | inr e ↦ ap is_written e ]) refl)
-
-    plain_found : map (found q first_worker (held_in q j)) (task_of q (task m)).accesses ≡ ins ++ held_in q j c ∷ []
-    plain_found =
-        ap (map (found q first_worker (held_in q j))) plain_accesses ∙ map-append (found q first_worker (held_in q j)) up.before (access RW c ∷ [])
+        ∙ ap (λ x. let y = cond x RW a.mode in let b : Access = record { mode = y; cell = c } in up.before ++ b ∷ []) mode in
+        let plain_written : written_cells q (task m) first_worker ≡ c ∷ [] = ap (λ (bs : List Access). map (worked_on q first_worker) (filter (λ b. is_written b.mode) bs)) plain_accesses
+        ∙ ap (map (worked_on q first_worker)) (filter-last (λ b. is_written b.mode) up.before (access RW c) (λ b h. elim (first-is p trust.proper (task n) inside a among (ap is_in_order is_redux_mode) b h) [ inl e ↦ ap is_written e | inr e ↦ ap is_written e ]) refl) in
+        let plain_found : map (found q first_worker (held_in q j)) (task_of q (task m)).accesses ≡ ins ++ held_in q j c ∷ [] = ap (map (found q first_worker (held_in q j))) plain_accesses ∙ map-append (found q first_worker (held_in q j)) up.before (access RW c ∷ [])
         ∙ ap (λ (ys : List Array). ys ++ held_in q j c ∷ []) (map-same (found q first_worker (held_in q j)) (found p first_worker (held_in p k)) up.before
-        (λ b h. found-alike b (subst (λ (bs : List Access). Contains bs b) (sym ends) (Contains-append_left up.before (a ∷ []) b h)) (up.direct b h)))
-
-    plain_left : held_in q newj c ≡ result_of out con.kernel l.args ins (held_in q j c)
-    plain_left =
-        held-append q (zip (written_cells q (task m) first_worker) (results out q (task m) first_worker (held_in q j))) j c
+        (λ b h. found-alike b (subst (λ (bs : List Access). Contains bs b) (sym ends) (Contains-append_left up.before (a ∷ []) b h)) (up.direct b h))) in
+        let plain_left : held_in q newj c ≡ result_of out con.kernel l.args ins (held_in q j c) = held-append q (zip (written_cells q (task m) first_worker) (results out q (task m) first_worker (held_in q j))) j c
         ∙ ap (λ (ds : List Cell). held_over (zip ds (results out q (task m) first_worker (held_in q j))) c (held_in q j c)) plain_written
-        ∙ first (results out q (task m) first_worker (held_in q j)) (results-complete out q (task m) first_worker (held_in q j) fit (out-makes_tiles fit.kernel) ∙ ap length plain_written) (held_in q j c)
+        ∙ by_one c (results out q (task m) first_worker (held_in q j)) (results-complete out q (task m) first_worker (held_in q j) fit (out-makes_tiles fit.kernel) ∙ ap length plain_written) (held_in q j c)
         ∙ (λ i. operand (out (plain_row i).codelet (plain_row i).args (plain_found i)) 0)
-        ∙ ap (λ (id : Codelet). operand (out id l.args (ins ++ held_in q j c ∷ [])) 0) (codelet_of-kernel l.codelet con.kernel con.codelet)
-      where
-        first : (ys : List Array) → length ys ≡ 1 → (below : Array) → held_over (zip (c ∷ []) ys) c below ≡ operand ys 0
-        first [] e below = absurd (omega (arith, e))
-        first (y ∷ ys) e below = ap (λ b. elim (cond b (Some (c, y)) (find (λ (entry : Cell × Array). same_cell entry.0 c) (zip [] ys))) as (λ _. Array) [ None ↦ below | Some entry ↦ entry.1 ]) (same_cell-refl c)
-
-    -- ---- the partial copy
-
-    rest_kept : (d : Cell) → d ≢ copy_at f.copies 0 → held_in p new d ≡ held_in p k d
-    rest_kept = others-kept p trust n inside a among is_redux_mode f its.partials con.kernel codelet con.contributes
-
-    is_sized : AreSized p k
-    is_sized = sized p trust n inside a among is_redux_mode f its.partials con.kernel codelet con.contributes
-
-    copies_sized : SizedCopies p k f c
-    copies_sized w below =
-        let x = copy_at f.copies w in
+        ∙ ap (λ (id : Codelet). operand (out id l.args (ins ++ held_in q j c ∷ [])) 0) (codelet_of-kernel l.codelet con.kernel con.codelet) in
+        let rest_kept = others-kept p trust n inside a among is_redux_mode f its.partials con.kernel codelet con.contributes in
+        let is_sized = sized p trust n inside a among is_redux_mode f its.partials con.kernel codelet con.contributes in
+        let copies_sized : SizedCopies p k f c = λ w below. (let x = copy_at f.copies w in
         let same = (trust.proper.cells.copies x c (record { 0 = w }) (is-copy p c f.copies (record { 0 = w }) its.partials below)).1 in
-        record { tile = (is_sized x).tile; dims = (is_sized x).dims ∙ same }
-
-    meant : with_all p k f (all_workers p) (held_in p k c) ≡ held_in q j c
-    meant = sym (denoted-open p phases k c f gift.1) ∙ holds c its.plain
-
-    found_sized : Fills p c (held_in q j c)
-    found_sized = subst (Fills p c) meant (all-sized p k f c (all_workers p) (held_in p k c) (λ w h. copies_sized w (all_workers-below p w h)) (is_sized c))
-
-    leaves : denoted p phases new c ≡ held_in q newj c
-    leaves =
+        record { tile = (is_sized x).tile; dims = (is_sized x).dims ∙ same }) in
+        let meant : with_all p k f (all_workers p) (held_in p k c) ≡ held_in q j c = sym (denoted-open p phases k c f gift.1) ∙ holds c its.plain in
+        each_cell c (λ d. IsPlain p d → denoted p phases new d ≡ held_in q newj d) (λ plain.
         denoted-open p phases new c f gift.1
         ∙ ap (with_all p new f (all_workers p)) (rest_kept c (unlike c (copy_at f.copies 0) (bare p c c f.copies its.plain its.partials 0 trust.staffed)))
         ∙ denotes-more p trust n inside a among is_redux_mode f its.partials con.kernel codelet con.contributes copies_sized (held_in p k c) (is_sized c)
         ∙ ap (combined out f.by (added p trust n inside a among is_redux_mode f its.partials con.kernel codelet con.contributes)) meant
-        ∙ sym (result-more p trust n inside a among is_redux_mode f its.partials con.kernel codelet con.contributes (held_in q j c) found_sized)
+        ∙ sym (result-more p trust n inside a among is_redux_mode f its.partials con.kernel codelet con.contributes (held_in q j c) (subst (Fills p c) meant (all-sized p k f c (all_workers p) (held_in p k c) (λ w h. copies_sized w (all_workers-below p w h)) (is_sized c))))
         ∙ ap (λ (g : Kernel). result_of out g (task_of p (task n)).args ins (held_in q j c)) (some_is up.kernel con.kernel (sym up.codelet ∙ codelet))
         ∙ ap (λ (x : Lowered). result_of out con.kernel x.args ins (held_in q j c)) row
-        ∙ sym plain_left
-
-    pub holds-gift : Holds p q phases new newj
-    holds-gift = each_cell c (λ d. IsPlain p d → denoted p phases new d ≡ held_in q newj d) (λ plain. leaves)
+        ∙ sym plain_left)
         (λ d other plain. denoted-same p phases phases k new d refl (rest_kept d (unlike d (copy_at f.copies 0) (bare p d c f.copies plain its.partials 0 trust.staffed)))
         (λ g there w below. rest_kept (copy_at g.copies w) (λ e. copies-apart p apart c d f.copies g.copies 0 w other its.partials (owned d g there).partials trust.staffed below (sym e)))
         ∙ holds d plain ∙ sym (after_task-other out q first_worker (task m) j d (ap (λ (ds : List Cell). has_cell ds d) plain_written ∙ ap (λ b. b || false) other)))

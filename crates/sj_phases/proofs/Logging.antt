@@ -28,11 +28,6 @@ pub phase-both : {X Y : Type 0} (c : Cell) (x : X) (f : Cell → X) (y : Y) (g :
 phase-both c x f y g P own other =
     phase-each c x f (λ d z. P d z (cond (same_cell c d) y (g d))) (subst (P c x) (sym (phase-own c y g)) own) (λ d h. subst (P d (f d)) (sym (phase-other c y g d h)) (other d h))
 
--- what holds of each thing that an option may come to holds of what it comes to
-pub option-cases : {X Y : Type 0} (o : Option X) (none : Y) (some : X → Y) (P : Y → Type 0) → (o ≡ None → P none) → ((x : X) → o ≡ Some x → P (some x)) → P (elim o as (λ _. Y) [ None ↦ none | Some x ↦ some x ])
-option-cases None none some P at_none at_some = at_none refl
-option-cases (Some x) none some P at_none at_some = at_some x refl
-
 -- ---- tasks one after another
 
 pub row-range : (p : Program) (g : ℕ → Lowered) (a k n : ℕ) → Stand p n (map g (range_with_len a k)) → (w : ℕ) → w < k → task_number p (n + w) ≡ g (a + w)

@@ -1,7 +1,7 @@
 -- What the tasks that begin and close a phase leave in the cells.
 use Rattle.sj_phases.proofs.Words.{[], ap, arith, Array, Cell, combine_row, combine_rows, combined, cond, Contains, Contents, copy_at, dims_of, false, first_units, held_in, init_row, init_rows, inl, inr, Least, Line, List, Lowered, map, OpenPhase, out, PhaseOpening, Plus, Program, Reduction, refl, same_cell, subst, sym, unit_of, ℕ, ◌<◌, ◌∙◌, ◌∷◌, ◌≡◌}
 use Rattle.std.proofs.lemmas.Bool.{cond_both}
-use Rattle.sj_phases.proofs.{Combined.all_workers, Combined.all_workers-below, Combined.with_all, Combined.with_all-same, Contents.held-cons, Contents.held-other, Contents.held-same, Folding.after_row, Folding.after_rows, Lists.cons-cases, Lists.first-has, Lists.more-has, Lists.none-has, Lists.range-has, Logging.by_which}
+use Rattle.sj_phases.proofs.{Combined.all_workers, Combined.all_workers-below, Combined.with_all, Combined.with_all-same, Contents.held-cons, Contents.held-other, Contents.held-same, Folding.after_row, Folding.after_rows, Lists.cons-cases, Lists.first-has, Lists.more-has, Lists.none-has, Lists.range-has, Logging.by_which, Logging.phase-each, Logging.phase-other, Logging.phase-own}
 pub use Rattle.sj_base.proofs.SameIds.{same_cell-turned as turned-bare}
 
 -- ---- combining
@@ -17,7 +17,8 @@ combines f c ws = map (λ w. combine_row f.by c f.line (copy_at f.copies w)) ws
 abbrev pub IsBare : Program → Cell → Cell → Type 0
 IsBare p first c = (w : ℕ) → w < p.workers → same_cell c (copy_at first w) ≡ false
 
-combines-value : (p : Program) (k : Contents) (f : OpenPhase) (c : Cell) (ws : List ℕ) → ((w : ℕ) → Contains ws w → same_cell c (copy_at f.copies w) ≡ false) → held_in p (after_rows p k (combines f c ws)) c ≡ with_all p k f ws (held_in p k c)
+-- the cell holds afterwards what it denoted
+pub combines-value : (p : Program) (k : Contents) (f : OpenPhase) (c : Cell) (ws : List ℕ) → ((w : ℕ) → Contains ws w → same_cell c (copy_at f.copies w) ≡ false) → held_in p (after_rows p k (combines f c ws)) c ≡ with_all p k f ws (held_in p k c)
 combines-value p k f c [] bare = refl
 combines-value p k f c (w ∷ ws) bare =
     let x = combined out f.by (held_in p k (copy_at f.copies w)) (held_in p k c) in
@@ -31,10 +32,7 @@ rows-hold : (p : Program) (Q : Contents → Type 0) (g : ℕ → Lowered) (ws : 
 rows-hold p Q g [] each k h = h
 rows-hold p Q g (w ∷ ws) each k h = rows-hold p Q g ws (λ v e. each v (more-has w ws v e)) (after_row p k (g w)) (each w (first-has w ws) k h)
 
--- the cell holds afterwards what it denoted, and each other cell what it held
-pub closed-value : (p : Program) (k : Contents) (f : OpenPhase) (c : Cell) → IsBare p f.copies c → held_in p (after_rows p k (combine_rows f c p.workers)) c ≡ with_all p k f (all_workers p) (held_in p k c)
-closed-value p k f c bare = combines-value p k f c (all_workers p) (λ w h. bare w (all_workers-below p w h))
-
+-- each other cell holds afterwards what it held
 pub closed-others : (p : Program) (k : Contents) (f : OpenPhase) (c d : Cell) → same_cell c d ≡ false → held_in p (after_rows p k (combine_rows f c p.workers)) d ≡ held_in p k d
 closed-others p k f c d other = rows-hold p (λ n. held_in p n d ≡ held_in p k d) (λ w. combine_row f.by c f.line (copy_at f.copies w)) (all_workers p)
     (λ w h n e. ap (λ (m : Contents). held_in p m d) (after_combine p n f.by c f.line (copy_at f.copies w)) ∙ held-other p c (combined out f.by (held_in p n (copy_at f.copies w)) (held_in p n c)) n d other ∙ e) k refl
@@ -49,15 +47,12 @@ pub after_init : (p : Program) (k : Contents) (by : Reduction) (line : Line) (c 
 after_init p k Plus line c = refl
 after_init p k Least line c = refl
 
-abbrev inits : Reduction → Cell → Line → List ℕ → List Lowered
-inits by first line ws = map (λ w. init_row by line (copy_at first w)) ws
-
 -- the cell holds its unit afterwards, and each other cell what it held
-init-own : (p : Program) (k : Contents) (by : Reduction) (line : Line) (c : Cell) → held_in p (after_row p k (init_row by line c)) c ≡ unit_at p by c
-init-own p k by line c = ap (λ (n : Contents). held_in p n c) (after_init p k by line c) ∙ held-same p c (unit_at p by c) k
+init-held : (p : Program) (k : Contents) (by : Reduction) (line : Line) (c d : Cell) → held_in p (after_row p k (init_row by line c)) d ≡ cond (same_cell c d) (unit_at p by c) (held_in p k d)
+init-held p k by line c d = ap (λ (n : Contents). held_in p n d) (after_init p k by line c) ∙ held-cons p c (unit_at p by c) k d
 
 init-other : (p : Program) (k : Contents) (by : Reduction) (line : Line) (c d : Cell) → same_cell c d ≡ false → held_in p (after_row p k (init_row by line c)) d ≡ held_in p k d
-init-other p k by line c d other = ap (λ (n : Contents). held_in p n d) (after_init p k by line c) ∙ held-other p c (unit_at p by c) k d other
+init-other p k by line c d other = init-held p k by line c d ∙ phase-other c (unit_at p by c) (held_in p k) d other
 
 -- what holds of a cell, and of each other one, holds of all
 pub each_cell : (c : Cell) (P : Cell → Type 0) → P c → ((d : Cell) → same_cell c d ≡ false → P d) → (d : Cell) → P d
@@ -65,14 +60,13 @@ each_cell c P own other d = by_which c d (P d) (λ same. subst P same own) (othe
 
 -- a cell that holds its unit does so afterwards
 init-keeps : (p : Program) (k : Contents) (by : Reduction) (line : Line) (c d : Cell) → held_in p k d ≡ unit_at p by d → held_in p (after_row p k (init_row by line c)) d ≡ unit_at p by d
-init-keeps p k by line c = each_cell c (λ d. held_in p k d ≡ unit_at p by d → held_in p (after_row p k (init_row by line c)) d ≡ unit_at p by d)
-    (λ e. init-own p k by line c) (λ d other e. init-other p k by line c d other ∙ e)
+init-keeps p k by line c d e = init-held p k by line c d ∙ phase-each c (unit_at p by c) (held_in p k) (λ x a. held_in p k x ≡ unit_at p by x → a ≡ unit_at p by x) (λ h. refl) (λ x other h. h) d e
 
-inits-value : (p : Program) (by : Reduction) (first : Cell) (line : Line) (ws : List ℕ) (w : ℕ) → Contains ws w → (k : Contents) → held_in p (after_rows p k (inits by first line ws)) (copy_at first w) ≡ unit_at p by (copy_at first w)
+inits-value : (p : Program) (by : Reduction) (first : Cell) (line : Line) (ws : List ℕ) (w : ℕ) → Contains ws w → (k : Contents) → held_in p (after_rows p k (map (λ w. init_row by line (copy_at first w)) ws)) (copy_at first w) ≡ unit_at p by (copy_at first w)
 inits-value p by first line [] w h k = absurd (none-has w h)
 inits-value p by first line (v ∷ ws) w h k = elim (cons-cases v ws w h) [
   | inl same ↦ rows-hold p (λ n. held_in p n (copy_at first w) ≡ unit_at p by (copy_at first w)) (λ u. init_row by line (copy_at first u)) ws (λ u e n. init-keeps p n by line (copy_at first u) (copy_at first w)) (after_row p k (init_row by line (copy_at first v)))
-      (subst (λ (u : ℕ). held_in p (after_row p k (init_row by line (copy_at first v))) (copy_at first u) ≡ unit_at p by (copy_at first u)) same (init-own p k by line (copy_at first v)))
+      (subst (λ (u : ℕ). held_in p (after_row p k (init_row by line (copy_at first v))) (copy_at first u) ≡ unit_at p by (copy_at first u)) same (init-held p k by line (copy_at first v) (copy_at first v) ∙ phase-own (copy_at first v) (unit_at p by (copy_at first v)) (held_in p k)))
   | inr later ↦ inits-value p by first line ws w later (after_row p k (init_row by line (copy_at first v)))
 ]
 
@@ -90,6 +84,4 @@ units-others p k o line d other = cond_both {A = List Lowered} o.valued [] (init
 -- in two programs of the same cells what a cell holds alike it holds alike after the first units
 pub units-same : (p q : Program) (k j : Contents) (o : PhaseOpening) (line : Line) (d : Cell) → dims_of p o.cell ≡ dims_of q o.cell → held_in p k d ≡ held_in q j d → held_in p (after_rows p k (first_units o line)) d ≡ held_in q (after_rows q j (first_units o line)) d
 units-same p q k j o line d dims same = cond_both {A = List Lowered} o.valued [] (init_row o.by line o.cell ∷ []) (λ ls. held_in p (after_rows p k ls) d ≡ held_in q (after_rows q j ls) d) (λ valued. same) (λ bare.
-    ap (λ (n : Contents). held_in p n d) (after_init p k o.by line o.cell) ∙ held-cons p o.cell (unit_at p o.by o.cell) k d
-    ∙ (λ i. cond (same_cell o.cell d) (unit_of out o.by (dims i)) (same i))
-    ∙ sym (held-cons q o.cell (unit_at q o.by o.cell) j d) ∙ ap (λ (n : Contents). held_in q n d) (sym (after_init q j o.by line o.cell)))
+    init-held p k o.by line o.cell d ∙ (λ i. cond (same_cell o.cell d) (unit_of out o.by (dims i)) (same i)) ∙ sym (init-held q j o.by line o.cell d))
