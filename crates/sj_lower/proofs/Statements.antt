@@ -1,15 +1,12 @@
 -- What each kind of statement does, by what the code's calls gave.
-use Rattle.sj_lower.proofs.Words.{[], a_delivery, a_root, Active, active_at, active_cells, AddsAct, ap, AreActive, AreLaid, arith, Bool, by_number, Cell, cell_of, cells_by, cells_from, change_at, children_count, closed, closing, cond, deliver_row, Delivery, Dims, Does, each_of, expanded, Expander, Expansion, false, first_cell, Fits, fold, Follows, get, Goes, Handle, handle_at, handle_of, HasAt, HasCells, HasNext, IfNone, IfSome, info_of, Init, InitFits, is_valued, IsActive, IsFull, KeptAct, Laid, Layout, Lays, length, length-append, Line, List, Lives, load_rows, Lowered, MayComeNext, most, no_root, no_values, None, Option, Parts, paste_row, pastes_of, Placed, places, range_with_len, Reduction, refl, Register, registered_root, registration_at, root_at, RootInfo, RootNumber, RootState, same_parts, same_taken, set, Some, Steps, StepsAt, subst, sym, Table, take, taken_plan, TaskBlock, TooManyCells, true, unwrap_or, with_elements, with_handle, with_own, with_parts, with_print, with_reduction, zip, ℕ, ◌*◌, ◌++◌, ◌+◌, ◌<◌, ◌∙◌, ◌∷◌, ◌≡◌, ◌≤◌}
+use Rattle.sj_lower.proofs.Words.{[], a_delivery, a_root, active_at, active_cells, AddsAct, ap, AreLaid, arith, Bool, by_number, Cell, cell_of, cells_by, cells_from, change_at, children_count, closed, closing, cond, deliver_row, Delivery, Dims, Does, each_of, expanded, Expander, Expansion, false, first_cell, Fits, fold, Follows, Goes, Handle, handle_at, handle_of, HasCells, HasNext, IfNone, IfSome, info_of, Init, is_valued, IsActive, IsFull, KeptAct, Laid, Layout, Lays, length, length-append, Line, List, Lives, load_rows, Lowered, MayComeNext, most, no_root, no_values, None, Option, Parts, paste_row, pastes_of, Placed, places, range_with_len, refl, Register, registered_root, registration_at, root_at, RootInfo, RootNumber, RootState, same_parts, set, Some, Steps, StepsAt, subst, sym, Table, take, TaskBlock, TooManyCells, true, unwrap_or, with_elements, with_handle, with_own, with_parts, with_print, zip, ℕ, ◌*◌, ◌++◌, ◌+◌, ◌<◌, ◌∙◌, ◌∷◌, ◌≡◌, ◌≤◌}
 use Rattle.std.proofs.lemmas.Simd.{map-map}
 use Rattle.sj_base.proofs.Options.{IfSome-at}
-use Rattle.sj_lower.proofs.{Arms.does-block, Arms.does-closing, Arms.does-empty, Arms.does-if, Arms.does-start-close, Arms.early-before, Arms.goes, Arms.goes-kept, Arms.keeps-change, Arms.kept-end, Arms.kept-of, Keeping.lives-below, Laying.active-set, Laying.cells-same, Laying.follows-kept, Laying.has-cells, Laying.keeps-take, Taken.laid-root, Taken.laid-take, Taken.root-there, Taken.take-prints}
+use Rattle.sj_lower.proofs.{Arms.does-block, Arms.does-closing, Arms.does-empty, Arms.does-if, Arms.does-start-close, Arms.early-before, Arms.goes, Arms.goes-kept, Arms.keeps-change, Arms.kept-end, Arms.kept-of, Keeping.lives-below, Laying.cells-same, Laying.follows-kept, Laying.has-cells, Laying.keeps-take, Taken.laid-root, Taken.laid-take, Taken.root-there, Taken.take-prints}
 use Rattle.sj_meaning.specs.declared.job.Act.TheVariants as kept
 use Rattle.sj_lower.specs.Step as step
 
 -- ---- what the code has
-
-pub has-phases : (T : Table) (old : Steps) (a : KeptAct) → HasNext T old a → HasAt old.phases
-has-phases T old a h = record { expansion = h.expansion; at = h.at.phases }
 
 -- the cells of a plan that a root has taken are within the limit
 room : (B : Laid) (n : ℕ) (p : Parts) (first : ℕ) → n < length B.handles → Fits p (handle_at B n).dims → AreLaid B → (handle_at (take n p B) n).first p ≡ Some first → length (take n p B).rows ≤ most → first + p.r * p.c ≤ most
@@ -68,15 +65,6 @@ module _ (T : Table) (old : Steps) (init : Init) (h : HasNext T old (kept.Regist
   pub register-count : length old.layout.actives.items ≡ length rs
   register-count = h.at.layout.active.counted ∙ h.next.whole.counted
 
-  pub register-few : length old.layout.infos.items ≤ most
-  register-few = omega (arith, ap length h.at.layout.lays.rows, h.at.layout.lays.few)
-
-  pub register-named : length rs < length T.names
-  register-named = omega (arith, h.next.named)
-
-  pub register-table : length rs < 4096
-  register-table = omega (arith, h.next.named, h.next.table)
-
   -- the cells of the new root are within the limit
   register-room : (l : Layout) (placed : Placed) → Follows l (rs ++ registered_root r ∷ []) (take (length C.handles) r.parts (with_handle r.dims C)) → (handle_at (take (length C.handles) r.parts (with_handle r.dims C)) (length C.handles)).first r.parts ≡ Some placed.first → placed.first + r.parts.r * r.parts.c ≤ most
   register-room l placed follows first =
@@ -91,15 +79,9 @@ module _ (T : Table) (old : Steps) (init : Init) (h : HasNext T old (kept.Regist
     pub register-fits : Fits info.parts info.dims
     register-fits = subst (λ (i : RootInfo). Fits i.parts i.dims) (sym fixed) h.next.sound.parts
 
-    pub register-values : InitFits init info.dims
-    register-values = subst (λ (i : RootInfo). InitFits init i.dims) (sym fixed) h.next.sound.values
-
     module _ (o : Option Placed) (placed : Placed) (found : o ≡ Some placed) (parts : IfSome o (λ x. x.parts ≡ info.parts)) where
       cut : placed.parts ≡ info.parts
       cut = IfSome-at (λ (x : Placed). x.parts ≡ info.parts) o placed found parts
-
-      pub placed-fits : Fits placed.parts info.dims
-      placed-fits = subst (λ (p : Parts). Fits p info.dims) (sym cut) register-fits
 
       pub placed-room : (l : Layout) → IfSome o (λ x. Registers old.layout l info x) → placed.first + children_count placed.parts ≤ most
       placed-room l laid =
@@ -151,15 +133,6 @@ module _ (T : Table) (old : Steps) (root : RootNumber) (p : Parts) (v : Bool) (h
   pub plan-lives : Lives h.roots root.0
   plan-lives = h.next.sound.0.lives
 
-  pub plan-named : root.0 < length T.names
-  plan-named = omega (arith, lives-below h.roots root.0 plan-lives, h.next.named)
-
-  pub plan-few : length old.layout.infos.items ≤ most
-  plan-few = omega (arith, ap length h.at.layout.lays.rows, h.at.layout.lays.few)
-
-  pub plan-has : HasCells old.layout.actives.items root.0
-  plan-has = has-active T old (kept.Plan root p v) root.0 h plan-lives
-
   plan-dims : (info_of T root).dims ≡ (root_at h.roots root.0).dims
   plan-dims = h.next.dims root.0 plan-lives
 
@@ -180,12 +153,6 @@ module _ (T : Table) (old : Steps) (root : RootNumber) (p : Parts) (v : Bool) (h
       let plans : Plans old.layout l root i.dims p placed = IfSome-at (λ (y : Placed). Plans old.layout l root i.dims p y) o placed found laid in
       let lays = plans h.roots h.cells h.at.layout plan-lives h.next.whole.counted (handle-dims ∙ ap (λ (j : RootInfo). j.dims) (sym info)) in
       subst (λ (s : Parts). placed.first + children_count s ≤ most) (sym (IfSome-at (λ (y : Placed). y.parts ≡ p) o placed found parts)) (plan-room l placed lays.0 lays.1)
-
-pub plan-full : (T : Table) (old : Steps) (root : RootNumber) (p : Parts) (v : Bool) (line : Line) (i : RootInfo) (o : Option Placed) → i ≡ info_of T root → o ≡ None → IfNone o (HasNoRoomFor old.layout root i.dims p) → IsFull T old (kept.Plan root p v) line TooManyCells
-plan-full T old root p v line i o info none full = λ rs C E at next.
-    let lives = next.sound.0.lives in
-    let above : HasNoRoomFor old.layout root i.dims p = subst (λ (x : Option Placed). IfNone x (HasNoRoomFor old.layout root i.dims p)) none full in
-    above rs C at.layout ((next.whole.taken root.0 lives).1.dims ∙ sym (next.dims root.0 lives) ∙ ap (λ (j : RootInfo). j.dims) (sym info))
 
 module _ (T : Table) (old new : Steps) (root : RootNumber) (p : Parts) (v : Bool) (line : Line) (placed : Placed) (parts : placed.parts ≡ p) (laid : Plans old.layout new.layout root (info_of T root).dims p placed) (prints : new.prints ≡ old.prints) where
   module _ (rs : List RootState) (C : Laid) (E : Expansion) (at : StepsAt old rs C E) (next : MayComeNext T old.phases.workers (kept.Plan root p v) rs C E) where
@@ -287,22 +254,6 @@ unregister-adds T old new root line layout prints does = λ rs C E at next.
 
 -- ---- print lines
 
-module _ (T : Table) (old : Steps) (root : RootNumber) (h : HasNext T old (kept.Print root)) where
-  pub print-has : HasCells old.layout.actives.items root.0
-  print-has = has-active T old (kept.Print root) root.0 h h.next.sound.0
-
-  pub print-named : root.0 < length T.names
-  print-named = omega (arith, lives-below h.roots root.0 h.next.sound.0, h.next.named)
-
-  -- there are no more print statements than tasks
-  print-few : old.phases.over ≡ None → old.prints ≤ most
-  print-few none = omega (arith, h.at.prints none, h.next.prints, (h.at.phases none).few)
-
-  -- so it was before, if there are not too many tasks afterwards
-  pub print-few-after : (mid late : Expander) (line : Line) (f g : Expansion → Expansion) → Does old.phases mid line f → Does mid late line g → late.over ≡ None → old.prints ≤ most
-  print-few-after mid late line f g p q none =
-      print-few (early-before old.phases mid line f h.expansion h.at.phases p (early-before mid late line g (f h.expansion) (p.at h.expansion h.at.phases) q none))
-
 print-adds : (T : Table) (old new : Steps) (root : RootNumber) (line : Line) (mid : Expander) → new.layout ≡ old.layout → (new.phases.over ≡ None → new.prints ≡ old.prints + 1)
     → Does old.phases mid line (λ F. fold (closed old.phases.workers) F (cells_by (active_at old.layout.actives.items root.0).placed))
     → (let x = (active_at old.layout.actives.items root.0).placed in Does mid new.phases line (with_own (each_of (λ place. deliver_row (cells_from x.first x.parts place) line) (places x.parts)) (each_of (a_delivery root.0 (info_of T root).dims x.parts old.prints) (zip (range_with_len 0 (length (places x.parts))) (places x.parts)))))
@@ -333,26 +284,3 @@ pub delivers-adds : (T : Table) (old new : Steps) (root : RootNumber) (line : Li
 delivers-adds T old new root line mid x i is info layout prints closes delivers =
     print-adds T old new root line mid layout prints (subst (λ (y : Placed). Closes old.phases mid line y) is closes)
     (subst (λ (y : Placed). Delivers mid new.phases line root.0 (info_of T root).dims y old.prints) is (subst (λ (j : RootInfo). Delivers mid new.phases line root.0 j.dims x old.prints) info delivers))
-
--- ---- reductions
-
-module _ (T : Table) (old new : Steps) (root : RootNumber) (by : Reduction) (line : Line) where
-  abbrev mine : Active
-  mine = record { placed = (active_at old.layout.actives.items root.0).placed; reduction = Some by }
-
-  pub reduce-adds : new.layout.infos ≡ old.layout.infos → new.layout.firsts ≡ old.layout.firsts → new.layout.actives.items ≡ set old.layout.actives.items root.0 mine → new.phases ≡ old.phases → new.prints ≡ old.prints → AddsAct T old new (kept.Redux root by) line
-  reduce-adds infos firsts actives phases prints = λ rs C E at next.
-      let n = root.0 in
-      let qs = change_at (with_reduction by) n rs in
-      let was = at.layout.active.each n next.sound.0 in
-      let is : IsActive C n mine (with_reduction by (root_at rs n)) = record { parts = was.parts; first = was.first; reduction = refl } in
-      let follows : Follows new.layout qs C = record {
-        lays = record {
-          rows = ap (λ v. v.items) infos ∙ at.layout.lays.rows;
-          few = at.layout.lays.few;
-          firsts = λ m p. ap (λ f. get same_taken f (taken_plan m p)) firsts ∙ at.layout.lays.firsts m p;
-        };
-        active = subst (λ bs. AreActive bs qs C) (sym actives) (active-set old.layout.actives.items rs C C n (with_reduction by) mine at.layout.active next.sound.0 next.whole.counted refl is (λ m s f e. e));
-      } in
-      goes-kept old new line rs qs C C E (closing line [] []) at follows
-      (subst (λ (x : Expander). Does old.phases x line (λ F. expanded old.phases.workers F (closing line [] []))) (sym phases) (does-empty old.phases line)) prints refl

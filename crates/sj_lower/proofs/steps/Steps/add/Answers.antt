@@ -1,16 +1,6 @@
-use Rattle.sj_lower.proofs.Words.{AddsAct, HasNext, IsFull, KeptAct, subst, sym}
+use Rattle.sj_lower.proofs.Words.{AddsAct, IsFull, KeptAct, subst, sym}
 use Rattle.sj_base.proofs.Results.{handed}
 use Rattle.sj_lower.proofs.steps.Steps.add.Goals as goal
-
-pub register-requires : goal.register-requires
-register-requires c = subst (λ (a : KeptAct). HasNext c.args.roots.now c.args.self.now a) c.in-Register.is c.requires
-
-pub returns-in_err-register-in-Register-clause-full : goal.returns-in_err-register-in-Register-clause-full
-returns-in_err-register-in-Register-clause-full c =
-    let T = c.args.roots.now in
-    let s = c.args.statement in
-    let e = c.in_err-register-in-Register.field-0.0 in
-    handed c.from_residual.result e (IsFull T c.args.self.now s.act s.line) c.from_residual.ensures.1 (subst (λ (a : KeptAct). IsFull T c.args.self.now a s.line e) (sym c.in-Register.is) c.in_err-register-in-Register.ensures.full)
 
 pub returns-in_ok-register-in-Register-clause-adds : goal.returns-in_ok-register-in-Register-clause-adds
 returns-in_ok-register-in-Register-clause-adds c =
@@ -18,33 +8,17 @@ returns-in_ok-register-in-Register-clause-adds c =
     let s = c.args.statement in
     subst (λ (a : KeptAct). AddsAct T c.args.self.now c.register.new.self a s.line) (sym c.in-Register.is) c.in_ok-register-in-Register.ensures.adds
 
-pub plan-requires : goal.plan-requires
-plan-requires c = subst (λ (a : KeptAct). HasNext c.args.roots.now c.args.self.now a) c.in-Plan.is c.requires
-
-pub returns-in_err-plan-in-Plan-clause-full : goal.returns-in_err-plan-in-Plan-clause-full
-returns-in_err-plan-in-Plan-clause-full c =
-    let T = c.args.roots.now in
-    let s = c.args.statement in
-    let e = c.in_err-plan-in-Plan.field-0.0 in
-    handed c.from_residual-in_err-plan-in-Plan.result e (IsFull T c.args.self.now s.act s.line) c.from_residual-in_err-plan-in-Plan.ensures.1 (subst (λ (a : KeptAct). IsFull T c.args.self.now a s.line e) (sym c.in-Plan.is) c.in_err-plan-in-Plan.ensures.full)
-
 pub returns-in_ok-plan-in-Plan-clause-adds : goal.returns-in_ok-plan-in-Plan-clause-adds
 returns-in_ok-plan-in-Plan-clause-adds c =
     let T = c.args.roots.now in
     let s = c.args.statement in
     subst (λ (a : KeptAct). AddsAct T c.args.self.now c.plan.new.self a s.line) (sym c.in-Plan.is) c.in_ok-plan-in-Plan.ensures.adds
 
-pub reduce-requires : goal.reduce-requires
-reduce-requires c = (c.args.roots.now, subst (λ (a : KeptAct). HasNext c.args.roots.now c.args.self.now a) c.in-Redux.is c.requires)
-
 pub returns-in-Redux-clause-adds : goal.returns-in-Redux-clause-adds
 returns-in-Redux-clause-adds c =
     let T = c.args.roots.now in
     let s = c.args.statement in
     subst (λ (a : KeptAct). AddsAct T c.args.self.now c.reduce.new.self a s.line) (sym c.in-Redux.is) (c.reduce.ensures T)
-
-pub task-requires : goal.task-requires
-task-requires c = (c.args.roots.now, subst (λ (a : KeptAct). HasNext c.args.roots.now c.args.self.now a) c.in-Task.is c.requires)
 
 pub returns-in_err-task-in-Task-clause-full : goal.returns-in_err-task-in-Task-clause-full
 returns-in_err-task-in-Task-clause-full c =
@@ -59,25 +33,6 @@ returns-in_ok-task-in-Task-clause-adds c =
     let s = c.args.statement in
     subst (λ (a : KeptAct). AddsAct T c.args.self.now c.task.new.self a s.line) (sym c.in-Task.is) (c.in_ok-task-in-Task.ensures.adds T)
 
-pub print-requires : goal.print-requires
-print-requires c = subst (λ (a : KeptAct). HasNext c.args.roots.now c.args.self.now a) c.in-Print.is c.requires
-
-pub returns-in_err-print-in-Print-clause-full : goal.returns-in_err-print-in-Print-clause-full
-returns-in_err-print-in-Print-clause-full c =
-    let T = c.args.roots.now in
-    let s = c.args.statement in
-    let e = c.in_err-print-in-Print.field-0.0 in
-    handed c.from_residual-in_err-print-in-Print.result e (IsFull T c.args.self.now s.act s.line) c.from_residual-in_err-print-in-Print.ensures.1 (subst (λ (a : KeptAct). IsFull T c.args.self.now a s.line e) (sym c.in-Print.is) c.in_err-print-in-Print.ensures.full)
-
-pub returns-in_ok-print-in-Print-clause-adds : goal.returns-in_ok-print-in-Print-clause-adds
-returns-in_ok-print-in-Print-clause-adds c =
-    let T = c.args.roots.now in
-    let s = c.args.statement in
-    subst (λ (a : KeptAct). AddsAct T c.args.self.now c.print.new.self a s.line) (sym c.in-Print.is) c.in_ok-print-in-Print.ensures.adds
-
-pub invalidate-requires : goal.invalidate-requires
-invalidate-requires c = (c.args.roots.now, subst (λ (a : KeptAct). HasNext c.args.roots.now c.args.self.now a) c.in-Invalidate.is c.requires)
-
 pub returns-in_err-invalidate-in-Invalidate-clause-full : goal.returns-in_err-invalidate-in-Invalidate-clause-full
 returns-in_err-invalidate-in-Invalidate-clause-full c =
     let T = c.args.roots.now in
@@ -90,9 +45,6 @@ returns-in_ok-invalidate-in-Invalidate-clause-adds c =
     let T = c.args.roots.now in
     let s = c.args.statement in
     subst (λ (a : KeptAct). AddsAct T c.args.self.now c.invalidate.new.self a s.line) (sym c.in-Invalidate.is) (c.in_ok-invalidate-in-Invalidate.ensures.adds T)
-
-pub unregister-requires : goal.unregister-requires
-unregister-requires c = (c.args.roots.now, subst (λ (a : KeptAct). HasNext c.args.roots.now c.args.self.now a) c.in-Unregister.is c.requires)
 
 pub returns-in_err-unregister-in-Unregister-clause-full : goal.returns-in_err-unregister-in-Unregister-clause-full
 returns-in_err-unregister-in-Unregister-clause-full c =

@@ -1,35 +1,7 @@
-use Rattle.sj_lower.proofs.Words.{arith, Fits, Parts, Placed, refl, RootInfo, Steps, subst, sym, ◌∙◌, ◌≡◌}
-use Rattle.sj_base.proofs.Options.{IfSome-at}
-use Rattle.sj_phases.proofs.Doing.{has-after}
-use Rattle.sj_lower.proofs.Statements.{active-fits, active-room, bare-adds, has-phases, pastes-adds, plan-cells, plan-few, plan-fits, plan-full, plan-has, plan-lives, plan-named, same-adds}
+use Rattle.sj_lower.proofs.Words.{refl, Steps, sym, ◌∙◌}
+use Rattle.sj_lower.proofs.Statements.{active-fits, active-room, bare-adds, pastes-adds, plan-cells, plan-lives, same-adds}
 use Rattle.sj_meaning.specs.declared.job.Act.TheVariants as kept
 use Rattle.sj_lower.proofs.steps.Steps.plan.Goals as goal
-
-pub info-requires : goal.info-requires
-info-requires c = plan-named c.args.roots.now c.args.self.now c.args.root c.args.parts c.args.valued c.requires
-
-pub placed-old-requires : goal.placed-old-requires
-placed-old-requires c =
-    let old = c.args.self.now in
-    omega (arith, old.layout.actives.ok, (plan-has c.args.roots.now old c.args.root c.args.parts c.args.valued c.requires).root)
-
-pub plan-requires-clause-plan : goal.plan-requires-clause-plan
-plan-requires-clause-plan c =
-    subst (λ (i : RootInfo). Fits c.args.parts i.dims) (sym c.info.ensures) (plan-fits c.args.roots.now c.args.self.now c.args.root c.args.parts c.args.valued c.requires)
-
-pub plan-requires-clause-few : goal.plan-requires-clause-few
-plan-requires-clause-few c =
-    let old = c.args.self.now in
-    omega (arith, old.layout.infos.ok, plan-few c.args.roots.now old c.args.root c.args.parts c.args.valued c.requires)
-
-pub plan-requires-clause-root : goal.plan-requires-clause-root
-plan-requires-clause-root c =
-    let old = c.args.self.now in
-    omega (arith, old.layout.actives.ok, (plan-has c.args.roots.now old c.args.root c.args.parts c.args.valued c.requires).root)
-
-pub returns-in_default-clause-full : goal.returns-in_default-clause-full
-returns-in_default-clause-full c =
-    plan-full c.args.roots.now c.args.self.now c.args.root c.args.parts c.args.valued c.args.line c.info.result c.in_ok-new.field-0 c.info.ensures c.in_default.is c.in_ok-new.ensures.full
 
 pub returns-then-eq-clause-adds : goal.returns-then-eq-clause-adds
 returns-then-eq-clause-adds c =
@@ -37,9 +9,6 @@ returns-then-eq-clause-adds c =
     let new : Steps = record { layout = c.plan.new.self; phases = old.phases; prints = old.prints } in
     same-adds c.args.roots.now old new c.args.root c.args.parts c.args.valued c.args.line c.placed-old.result c.info.result c.in_ok-new.field-0 c.in-Some.new c.placed-old.ensures c.info.ensures c.in-Some.is c.in_ok-new.ensures.parts c.in_ok-new.ensures.laid refl
     (sym c.eq.ensures ∙ c.if-eq.true) refl
-
-pub close_plan-requires-clause-at : goal.close_plan-requires-clause-at
-close_plan-requires-clause-at c = has-phases c.args.roots.now c.args.self.now (kept.Plan c.args.root c.args.parts c.args.valued) c.requires
 
 pub close_plan-requires-clause-cells : goal.close_plan-requires-clause-cells
 close_plan-requires-clause-cells c =
@@ -54,21 +23,11 @@ returns-then-not-valued-clause-adds c =
     bare-adds c.args.roots.now old new c.args.root c.args.parts c.args.valued c.args.line c.placed-old.result c.info.result c.in_ok-new.field-0 c.in-Some.new c.placed-old.ensures c.info.ensures c.in-Some.is c.in_ok-new.ensures.parts c.in_ok-new.ensures.laid refl
     (sym c.eq.ensures ∙ c.if-eq.false) c.if-not-valued.true c.in_ok-close_plan.ensures
 
-pub push_pastes-requires-clause-at : goal.push_pastes-requires-clause-at
-push_pastes-requires-clause-at c =
-    let old = c.args.self.now in
-    has-after old.phases c.close_plan.new.phases c.args.line _ c.in_ok-close_plan.ensures (has-phases c.args.roots.now old (kept.Plan c.args.root c.args.parts c.args.valued) c.requires)
-
 pub push_pastes-requires-clause-old_plan : goal.push_pastes-requires-clause-old_plan
 push_pastes-requires-clause-old_plan c =
     let T = c.args.roots.now in
     let old = c.args.self.now in
     active-fits T old (kept.Plan c.args.root c.args.parts c.args.valued) c.args.root.0 c.requires c.placed-old.result c.info.result (plan-lives T old c.args.root c.args.parts c.args.valued c.requires) c.placed-old.ensures c.info.ensures
-
-pub push_pastes-requires-clause-new_plan : goal.push_pastes-requires-clause-new_plan
-push_pastes-requires-clause-new_plan c =
-    let parts : c.in-Some.new.parts ≡ c.args.parts = IfSome-at (λ (x : Placed). x.parts ≡ c.args.parts) c.in_ok-new.field-0 c.in-Some.new c.in-Some.is c.in_ok-new.ensures.parts in
-    subst (λ (p : Parts). Fits p c.info.result.dims) (sym parts) (subst (λ (i : RootInfo). Fits c.args.parts i.dims) (sym c.info.ensures) (plan-fits c.args.roots.now c.args.self.now c.args.root c.args.parts c.args.valued c.requires))
 
 pub push_pastes-requires-clause-old_cells : goal.push_pastes-requires-clause-old_cells
 push_pastes-requires-clause-old_cells c =

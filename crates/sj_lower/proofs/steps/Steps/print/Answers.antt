@@ -1,30 +1,8 @@
-use Rattle.sj_lower.proofs.Words.{ap, arith, is_some, Line, most, None, Option, refl, Steps, sym, ◌+◌, ◌∙◌, ◌≡◌, ◌≤◌}
+use Rattle.sj_lower.proofs.Words.{ap, is_some, Line, Option, refl, Steps, sym, ◌+◌, ◌∙◌}
 use Rattle.std.proofs.lemmas.Bool.{false≢true}
-use Rattle.sj_phases.proofs.Doing.{has-after, none-over}
-use Rattle.sj_lower.proofs.Statements.{active-fits, active-room, delivers-adds, has-phases, print-few-after, print-has, print-named}
+use Rattle.sj_lower.proofs.Statements.{active-fits, active-room, delivers-adds}
 use Rattle.sj_meaning.specs.declared.job.Act.TheVariants as kept
 use Rattle.sj_lower.proofs.steps.Steps.print.Goals as goal
-
-pub placed-placed-requires : goal.placed-placed-requires
-placed-placed-requires c =
-    let old = c.args.self.now in
-    omega (arith, old.layout.actives.ok, (print-has c.args.roots.now old c.args.root c.requires).root)
-
-pub close_plan-requires-clause-at : goal.close_plan-requires-clause-at
-close_plan-requires-clause-at c = has-phases c.args.roots.now c.args.self.now (kept.Print c.args.root) c.requires
-
-pub close_plan-requires-clause-cells : goal.close_plan-requires-clause-cells
-close_plan-requires-clause-cells c =
-    let h = c.requires in
-    active-room c.args.roots.now c.args.self.now (kept.Print c.args.root) c.args.root.0 h c.placed-placed.result h.next.sound.0 c.placed-placed.ensures
-
-pub info-requires : goal.info-requires
-info-requires c = print-named c.args.roots.now c.args.self.now c.args.root c.requires
-
-pub push_delivers-requires-clause-at : goal.push_delivers-requires-clause-at
-push_delivers-requires-clause-at c =
-    let old = c.args.self.now in
-    has-after old.phases c.close_plan.new.phases c.args.line _ c.in_ok-close_plan.ensures (has-phases c.args.roots.now old (kept.Print c.args.root) c.requires)
 
 pub push_delivers-requires-clause-plan : goal.push_delivers-requires-clause-plan
 push_delivers-requires-clause-plan c =
@@ -43,13 +21,6 @@ returns-then-is_some-clause-adds c =
     let new : Steps = record { layout = old.layout; phases = late; prints = old.prints } in
     delivers-adds c.args.roots.now old new c.args.root c.args.line c.close_plan.new.phases c.placed-placed.result c.info.result c.placed-placed.ensures c.info.ensures refl
     (λ none. absurd (false≢true (sym (ap (λ (o : Option Line). is_some o) none) ∙ sym c.is_some.ensures ∙ c.if-is_some.true))) c.in_ok-close_plan.ensures c.in_ok-push_delivers.ensures
-
-pub overflow_add-self : goal.overflow_add-self
-overflow_add-self c =
-    let late = c.push_delivers.new.phases in
-    let none : late.over ≡ None = none-over late.over c.is_some.result c.is_some.ensures c.if-is_some.false in
-    let few : c.args.self.now.prints ≤ most = print-few-after c.args.roots.now c.args.self.now c.args.root c.requires c.close_plan.new.phases late c.args.line _ _ c.in_ok-close_plan.ensures c.in_ok-push_delivers.ensures none in
-    omega arith
 
 pub returns-clause-adds : goal.returns-clause-adds
 returns-clause-adds c =

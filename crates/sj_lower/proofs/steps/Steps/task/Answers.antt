@@ -1,4 +1,4 @@
-use Rattle.sj_lower.proofs.Words.{access_by, All, ap, CanOpen, cell_by, closed, Does, filter, fold, HasAt, is_contributed, is_other, is_redux, IsActiveChild, IsFull, List, lowered_task, map, OutOfMemory, refl, StepRefusal, Steps, subst, sym, Table, true, ℕ, ◌∙◌, ◌≡◌}
+use Rattle.sj_lower.proofs.Words.{access_by, All, ap, CanOpen, cell_by, closed, Does, filter, fold, HasAt, is_contributed, is_other, is_redux, IsActiveChild, IsFull, List, lowered_task, map, refl, StepRefusal, Steps, subst, sym, Table, true, ℕ, ◌∙◌, ◌≡◌}
 use Rattle.sj_meaning.specs.declared.job.Operand.{Operand}
 use Rattle.sj_base.proofs.Results.{handed}
 use Rattle.sj_phases.proofs.Doing.{has-after}
@@ -6,23 +6,11 @@ use Rattle.sj_lower.proofs.Tasking.{actives-kept, all-can, all-inside, still-has
 use Rattle.sj_meaning.specs.declared.job.Act.TheVariants as kept
 use Rattle.sj_lower.proofs.steps.Steps.task.Goals as goal
 
-pub close_operands-requires-clause-at : goal.close_operands-requires-clause-at
-close_operands-requires-clause-at c = let h = c.requires.1 in record { expansion = h.expansion; at = h.at.phases }
-
 pub close_operands-requires-clause-inside : goal.close_operands-requires-clause-inside
 close_operands-requires-clause-inside c =
     let x = c.args.self.now in
     let h = c.requires.1 in
     subst (λ (os : List Operand). All (IsActiveChild x.layout.actives.items) os) (sym c.items-operands.ensures) (all-inside x.layout x.phases.workers h.roots h.cells h.at.layout h.next.whole c.args.task.operands h.next.sound.placed)
-
-pub returns-in_err-close_operands-clause-full : goal.returns-in_err-close_operands-clause-full
-returns-in_err-close_operands-clause-full c =
-    handed c.from_residual.result OutOfMemory (λ (e : StepRefusal). (T : Table) → IsFull T c.args.self.now (kept.Task c.args.task) c.args.line e) c.from_residual.ensures.1 (λ T. tt)
-
-pub open_operands-requires-clause-at : goal.open_operands-requires-clause-at
-open_operands-requires-clause-at c =
-    let h = c.requires.1 in
-    has-after c.args.self.now.phases c.close_operands.new.phases c.args.line _ c.in_ok-close_operands.ensures (record { expansion = h.expansion; at = h.at.phases })
 
 pub open_operands-requires-clause-inside : goal.open_operands-requires-clause-inside
 open_operands-requires-clause-inside c =
@@ -57,10 +45,6 @@ accesses-requires c =
     subst (λ v. All (IsActiveChild v.items) c.items-operands.result.now) (sym plans)
     (subst (λ (os : List Operand). All (IsActiveChild x.layout.actives.items) os) (sym c.items-operands.ensures) (all-inside x.layout x.phases.workers h.roots h.cells h.at.layout h.next.whole t.operands h.next.sound.placed))
 
-pub returns-in_err-accesses-clause-full : goal.returns-in_err-accesses-clause-full
-returns-in_err-accesses-clause-full c =
-    handed c.from_residual-in_err-accesses.result OutOfMemory (λ (e : StepRefusal). (T : Table) → IsFull T c.args.self.now (kept.Task c.args.task) c.args.line e) c.from_residual-in_err-accesses.ensures.1 (λ T. tt)
-
 pub push-requires : goal.push-requires
 push-requires c =
     let x = c.args.self.now in
@@ -70,10 +54,6 @@ push-requires c =
     record {
       at = still-has c.requires.0 x c.args.task c.open_operands.new.layout c.close_operands.new.phases c.open_operands.new.phases c.args.line h closed_at (λ f. (c.in_ok-open_operands.ensures.none (same ∙ f)).1) (λ o rest f. c.in_ok-open_operands.ensures.opens o rest (same ∙ f));
     }
-
-pub returns-in_err-push-clause-full : goal.returns-in_err-push-clause-full
-returns-in_err-push-clause-full c =
-    handed c.from_residual-in_err-push.result OutOfMemory (λ (e : StepRefusal). (T : Table) → IsFull T c.args.self.now (kept.Task c.args.task) c.args.line e) c.from_residual-in_err-push.ensures.1 (λ T. tt)
 
 pub returns-clause-adds : goal.returns-clause-adds
 returns-clause-adds c = λ T.
