@@ -16,9 +16,6 @@ returns-then-not-has_open c = c.has_open.ensures c.args.line (cells c.args.layou
 pub loop-operand-init : goal.loop-operand-init
 loop-operand-init c = does-start-close c.args.phases.now c.args.line [] refl
 
-pub cell-requires : goal.cell-requires
-cell-requires c = c.requires.inside c.loop-operand.operand-index _ c.loop-operand-test.true
-
 pub close-requires : goal.close-requires
 close-requires c = record { at = has-after c.args.phases.now c.loop-operand.phases c.args.line _ c.loop-operand.invariant c.requires.at }
 

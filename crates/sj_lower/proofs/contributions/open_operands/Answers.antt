@@ -4,9 +4,6 @@ use Rattle.std.proofs.lemmas.Result.{IfErr-weaker, on_ok_weaker}
 use Rattle.sj_lower.proofs.{Laying.none-at, Tasking.first-has, Tasking.not-none, Tasking.of-first}
 use Rattle.sj_lower.proofs.contributions.open_operands.Goals as goal
 
-pub returns-in_default-clause-none : goal.returns-in_default-clause-none
-returns-in_default-clause-none c = λ e. (refl, refl)
-
 pub returns-in_default-clause-opens : goal.returns-in_default-clause-opens
 returns-in_default-clause-opens c = λ o rest e.
     let none = none-at c.contributed.result (filter is_contributed c.args.operands.now ≡ []) c.in_default.is c.contributed.ensures.none in
