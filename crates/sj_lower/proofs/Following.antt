@@ -1,5 +1,5 @@
 -- The statements of a job, one after another: the cells of the program without phases agree with the roots before each.
-use Rattle.sj_lower.proofs.Words.{[], Act, apply_at, AreSoundAt, Bool, by_number, Cell, contributed, fold, IsSoundAt, Kernel, Laid, length, Line, List, Lookup, Lowered, map, open_at, OpenReductions, operand_cell, plain_rows, Plans, Program, Registers, RootState, Statement, step_of, Tasks, with_copies, with_handle, ℕ, ◌++◌, ◌+◌, ◌∷◌}
+use Rattle.sj_lower.proofs.Words.{[], Act, apply_at, AreSoundAt, Bool, by_number, contributed, IsSoundAt, Kernel, Laid, length, Line, List, Lookup, Lowered, map, open_at, OpenReductions, operand_cell, plain_rows, Plans, Program, Registers, RootState, Statement, step_of, Tasks, with_copies, with_handle, ℕ, ◌++◌, ◌+◌, ◌∷◌}
 use Rattle.sj_phases.proofs.Lists.{fold_keeps}
 use Rattle.sj_lower.proofs.{Agrees.Agrees, Agrees.AreOpenChildren, Copying.copies-more, Copying.take-more, Folding.Stand, Folding.stand-append, Growing.Grows, Growing.grows-refl, Growing.grows-trans, Keeping.HasCells, Stepping.agrees-step}
 

@@ -1,5 +1,5 @@
 -- A job lowered one statement after another, up to its end.
-use Rattle.sj_lower.proofs.Words.{[], Act, act_at, AddsAct, ap, apply_at, arith, by_number, Cell, cells_above, cells_after, cells_below, closed, Does, expanded, Expander, Expansion, fold, Goes, HasAt, HasNext, IsFullWith, IsLate, IsOverLimit, Kept, Laid, last_block, late_cells, late_tasks, Layout, LeavesStatements, length, Line, List, LoweringProgress, LoweringStep, LowerRefusal, map, MayComeInTurn, MayComeNext, most, no_cells, no_line, None, nothing, Option, over_after, Program, program_by, program_from, range_with_len, Refusal, RootState, Some, StandsAt, step_of, steps_at, StepsAt, subst, sym, Table, TaskBlock, tasks_above, TooManyTasks, vec_len, ℕ, ◌<◌, ◌∙◌, ◌∷◌, ◌≡◌, ◌≤◌}
+use Rattle.sj_lower.proofs.Words.{[], Act, act_at, AddsAct, ap, apply_at, arith, by_number, Cell, cells_above, cells_after, cells_below, closed, Does, expanded, Expander, Expansion, fold, Goes, HasNext, IsFullWith, IsLate, IsOverLimit, Kept, Laid, last_block, late_cells, late_tasks, Layout, LeavesStatements, length, Line, List, LoweringProgress, LoweringStep, LowerRefusal, map, MayComeInTurn, MayComeNext, most, no_cells, no_line, None, nothing, Option, over_after, Program, program_by, program_from, range_with_len, Refusal, RootState, Some, StandsAt, step_of, steps_at, StepsAt, subst, sym, Table, TaskBlock, tasks_above, TooManyTasks, vec_len, ℕ, ◌<◌, ◌∙◌, ◌∷◌, ◌≡◌, ◌≤◌}
 use Rattle.sj_lower.specs.declared.lower.LowerRefusal.TheVariants.{OutOfMemory, TooManyCells}
 use Rattle.sj_base.proofs.Numbers.{none_first}
 use Rattle.sj_phases.proofs.Doing.{own-nothing}

@@ -1,9 +1,9 @@
 -- The deliveries of the program without phases hand over the children of what the print statements find, in order.
-use Rattle.sj_lower.proofs.Words.{[], a_delivery, a_root, Act, active_cells, AllByRecursion, ap, append_assoc, apply_at, AreSoundAt, arith, Array, Bool, by_number, Cell, cell_of, child, closing, cond, Contents, contributed, data_operands, deliver_row, Delivery, each_of, fold, get_or, given, handed_over, held_before, held_in, is_valued, IsPlace, IsSoundAt, Kernel, Laid, length, length-append, Line, List, Lowered, moved, open_at, OpenReductions, operand_cell, out, Parts, paste_row, pastes_of, place_of, places, plain_next, plain_rows, Plainly, plan_block, Plans, print_block, printed_at, Prints, prints_at, Program, range_with_len, refl, Registers, root_array, root_at, RootNumber, RootState, same_parts, Statement, step_of, subst, sym, take, task_of, TaskBlock, Tasks, true, units, window, with_handle, worked_on, zip, ℕ, ◌++◌, ◌+◌, ◌∙◌, ◌∷◌, ◌≡◌}
+use Rattle.sj_lower.proofs.Words.{[], a_delivery, a_root, Act, active_cells, AllByRecursion, ap, append_assoc, apply_at, AreSoundAt, arith, Array, Bool, by_number, Cell, cell_of, child, closing, cond, Contents, contributed, data_operands, deliver_row, Delivery, each_of, fold, get_or, given, handed_over, held_before, held_in, is_valued, IsPlace, IsSoundAt, Kernel, Laid, length, length-append, Line, List, Lowered, moved, open_at, OpenReductions, operand_cell, out, paste_row, pastes_of, place_of, places, plain_next, plain_rows, Plainly, Plans, print_block, printed_at, Prints, prints_at, Program, range_with_len, refl, Registers, root_array, root_at, RootNumber, RootState, same_parts, Statement, step_of, subst, sym, take, TaskBlock, Tasks, true, units, window, with_handle, worked_on, zip, ℕ, ◌++◌, ◌+◌, ◌∙◌, ◌∷◌, ◌≡◌}
 use Rattle.std.proofs.lemmas.{Bool.cond_both, List.append-nil, List.map-append, Simd.map-map}
 use Rattle.sj_base.proofs.Numbers.{length_more, none_more}
 use Rattle.sj_plan.proofs.Lists.{each-places}
-use Rattle.sj_lower.proofs.{Contents.contents-next, Contents.contents_before, Contents.first_worker, Contents.task_at, Copying.copies-prints, Elements.child-window, Elements.valued-child, Filling.after_deliver, Folding.after_row-is, Folding.Stand, Following.AllAgree, Following.IsAt, Following.rows_from, Keeping.HasRoot, Keeping.HaveRoots, Properly.blocks_from, Stepping.direct-delivers, Taken.take-prints}
+use Rattle.sj_lower.proofs.{Contents.contents-next, Contents.contents_before, Contents.first_worker, Contents.task_at, Copying.copies-prints, Elements.child-window, Elements.valued-child, Filling.after_deliver, Folding.after_row-is, Folding.Stand, Following.AllAgree, Following.rows_from, Keeping.HasRoot, Keeping.HaveRoots, Properly.blocks_from, Stepping.direct-delivers, Taken.take-prints}
 
 -- what a delivery hands over, and where that belongs
 abbrev pub Handed : Type 0

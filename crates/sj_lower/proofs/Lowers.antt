@@ -1,10 +1,8 @@
 -- The names of a numbered job are those of its table, which tells what it registers.
 use Rattle.sj_lower.proofs.Words.{[], act_at, act_seen, ap, apply_at, arith, by_number, count_after, count_from, drop, fold, Kept, KeptAct, Laid, length, List, LoweringStep, name_at, names_in, names_of, refl, RootState, seen_from, Statement, statements_from, step_of, steps_from, sym, Table, ℕ, ◌++◌, ◌∙◌, ◌∷◌, ◌≡◌, ◌≤◌}
-use Rattle.sj_meaning.proofs.Mirroring.{printed_as as found_as}
 use Rattle.std.proofs.lemmas.List.{drop_all, drop_more}
-use Rattle.sj_meaning.proofs.{Mirroring.AreTimely, Mirroring.printed-by, Timely.statements-named, Timely.timely, Views.counts-grow}
-use Rattle.sj_lower.proofs.{Following.laid_from, Known.HasOwn, Known.IsKnown, Known.known-all, Naming.all-known, Naming.AreSilent, Naming.AreTold, Naming.IsTold, Naming.knows-none, Naming.mirror-start, Naming.sounds-at, Printing.delivers-printed, Proving.all, Proving.are-delivered, Proving.blocks, Proving.hands-over, Proving.is-proper, Proving.orderly, Running.are-ready, Speaking.steps-same, Values.values-same}
-use Rattle.sj_phases.proofs.Fewer.{few-plain}
+use Rattle.sj_meaning.proofs.{Views.counts-grow}
+use Rattle.sj_lower.proofs.{Following.laid_from, Naming.AreTold, Naming.IsTold}
 use Rattle.sj_meaning.specs.declared.job.Act.TheVariants as kept
 
 -- ---- the names of a numbered job are those of its table

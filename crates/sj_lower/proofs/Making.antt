@@ -1,12 +1,11 @@
 -- What lowering gives of a job that lines may say.
 use Rattle.sj_lower.proofs.Words.{[], All, ap, apply, AreSoundActs, AreSoundAt, arith, Bool, by_name, CellInfo, Deliver, DeliversInOrder, DeliversPrinted, expand, IsDelivered, IsLate, IsLawful, IsNumbered, IsTable, IsWell, Kept, Kernel, Laid, last_block, last_line, late_limit, length, List, Load, LoadFill, lowered, LoweringStep, LowerRefusal, map, MayComeInTurn, NamesDeliverTasks, no_cells, none_open, nothing, out, plain_program, printed, printed_at, Program, program_by, program_of_blocks, Proper, refl, seen_from, start, Statement, statements_from, steps_from, steps_of, subst, sym, Table, TaskBlock, true, values_from, ℕ, ◌&&◌, ◌++◌, ◌<◌, ◌^◌, ◌∙◌, ◌∷◌, ◌≡◌, ◌≤◌}
 use Rattle.sj_codelet.specs.declared.kernel.Kernel.TheVariants.{Paste}
-use Rattle.sj_meaning.proofs.Mirroring.{printed_as as found_as}
 use Rattle.sj_meaning.proofs.{Mirroring.AreTimely, Mirroring.printed-by, Timely.statements-named, Timely.timely}
 use Rattle.sj_phases.proofs.Fewer.{few-plain}
 use Rattle.sj_lower.proofs.Naming.{all-known as table-knows}
 use Rattle.sj_lower.proofs.Proving.{is-proper as proper-blocks}
-use Rattle.sj_lower.proofs.{Allowed.all-silent, Allowed.all-sound, Following.laid_from, Going.IsMade, Going.late_by, Going.steps_from_start, Known.IsKnown, Known.known-all, Known.own-of, Lowers.laid-last, Lowers.names-from, Lowers.told-all, Naming.AreSilent, Naming.AreTold, Naming.knows-none, Naming.mirror-start, Naming.sounds-at, Printing.delivers-printed, Proving.all, Proving.are-delivered, Proving.blocks, Proving.hands-over, Proving.orderly, Running.are-ready, Speaking.steps-same, Values.values-same}
+use Rattle.sj_lower.proofs.{Allowed.all-silent, Allowed.all-sound, Following.laid_from, Going.IsMade, Going.late_by, Going.steps_from_start, Known.IsKnown, Known.known-all, Known.own-of, Lowers.laid-last, Lowers.names-from, Lowers.told-all, Naming.AreTold, Naming.knows-none, Naming.mirror-start, Naming.sounds-at, Printing.delivers-printed, Proving.all, Proving.are-delivered, Proving.blocks, Proving.hands-over, Proving.orderly, Running.are-ready, Speaking.steps-same, Values.values-same}
 
 module _ (T : Table) (kss : List Kept) (table : IsTable T) (numbered : IsNumbered T kss) (has : Kernel → Bool) (well : IsWell has 0 start (seen_from T 0 kss)) (workers : ℕ) where
   abbrev ss : List (Statement (List ℕ))

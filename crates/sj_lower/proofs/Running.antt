@@ -1,5 +1,5 @@
 -- One statement after another, up to the end.
-use Rattle.sj_lower.proofs.Words.{[], Act, act_at, active_cells, ap, apply_at, AreLaidFor, AreSoundAt, arith, blocks_by, blocks_in, Bool, by_number, Cell, cell_of, cells_above, closing, cond, contributed, count_after, count_from, deliver_row, expand, expanded, Expansion, false, find, finds_at, first_above, fold, Goes, is_valued, IsSoundAt, Kept, Kernel, Laid, laid_by, last_block, last_line, LeavesStatements, length, length-append, Line, line_or, List, LoweringStep, map, MayComeInTurn, most, nat_lt, no_cells, None, nothing, open_at, OpenReductions, operand_cell, Option, option_map, over_after, paste_row, pastes_of, plain_rows, Plans, prepared, Prints, prints_at, Program, program_by, program_from, refl, Registers, root_at, RootState, same_parts, says_value, Some, statements_from, step_of, Steps, steps_at, steps_from, subst, sym, Table, take, TaskBlock, Tasks, tasks_above, true, values_said, ℕ, ◌*◌, ◌++◌, ◌+◌, ◌<◌, ◌∙◌, ◌∷◌, ◌≡◌, ◌≤◌}
+use Rattle.sj_lower.proofs.Words.{[], Act, act_at, active_cells, ap, apply_at, AreLaidFor, AreSoundAt, arith, blocks_by, blocks_in, Bool, by_number, Cell, cell_of, cells_above, closing, cond, count_after, count_from, deliver_row, expand, expanded, Expansion, false, find, finds_at, first_above, fold, Goes, is_valued, IsSoundAt, Kept, Kernel, Laid, laid_by, last_block, last_line, LeavesStatements, length, length-append, Line, line_or, List, LoweringStep, map, MayComeInTurn, most, nat_lt, no_cells, None, nothing, open_at, OpenReductions, Option, option_map, over_after, paste_row, pastes_of, plain_rows, Plans, prepared, Prints, prints_at, Program, program_by, program_from, refl, root_at, RootState, same_parts, says_value, Some, statements_from, step_of, Steps, steps_at, steps_from, subst, sym, Table, take, TaskBlock, tasks_above, true, values_said, ℕ, ◌*◌, ◌++◌, ◌+◌, ◌<◌, ◌∙◌, ◌∷◌, ◌≡◌, ◌≤◌}
 use Rattle.std.proofs.lemmas.{Bool.cond_both, Bool.le-ltb, Bool.lt-ltb, List.length-map, List.Sums.fold-append}
 use Rattle.sj_base.proofs.{Lists.cons_same, Numbers.positive_product}
 use Rattle.sj_meaning.proofs.{Timely.length-apply, Views.counts-grow}

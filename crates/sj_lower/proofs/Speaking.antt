@@ -1,5 +1,5 @@
 -- By their roots' names and by their numbers statements give the same cells and blocks.
-use Rattle.sj_lower.proofs.Words.{[], access_of, Act, act_named_by, active_cells, AllByRecursion, ap, apply, apply_at, AreDistinct, Bool, by_name, by_number, Cell, cell_of, closing, contributed, filter, flat_map, fold, Invalidates, is_other_access, is_redux, JobState, Laid, Line, List, Lookup, LoweringStep, map, name_at, opening_for, Operand, operand_cell, operand_named_by, PhaseOpening, places, plan_block, Plans, print_block, Prints, refl, RootState, Statement, statement_named_by, step, step_of, steps_from, sym, take, task_block, task_named_by, Tasks, Unregisters, with_copies, with_print, ℕ, ◌++◌, ◌∙◌, ◌∷◌, ◌≡◌}
+use Rattle.sj_lower.proofs.Words.{[], access_of, Act, act_named_by, active_cells, AllByRecursion, ap, apply, apply_at, AreDistinct, Bool, by_name, by_number, cell_of, closing, contributed, filter, flat_map, fold, Invalidates, is_other_access, is_redux, JobState, Laid, Line, List, Lookup, LoweringStep, map, name_at, opening_for, Operand, operand_cell, operand_named_by, PhaseOpening, places, plan_block, Plans, print_block, Prints, refl, RootState, Statement, statement_named_by, step, step_of, steps_from, sym, take, task_block, task_named_by, Tasks, Unregisters, with_copies, with_print, ℕ, ◌++◌, ◌∙◌, ◌∷◌, ◌≡◌}
 use Rattle.std.proofs.lemmas.{List.Folds.flat_map-map, Simd.map-map}
 use Rattle.sj_base.proofs.Lists.{each-weaker}
 use Rattle.sj_plan.proofs.Lists.{each-filter, map-filter}

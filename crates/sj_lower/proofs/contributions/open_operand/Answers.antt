@@ -1,4 +1,4 @@
-use Rattle.sj_lower.proofs.Words.{Active, active_at, ap, arith, Cell, cell_by, length, subst, sym, vec_len, ◌<◌, ◌∙◌, ◌≡◌}
+use Rattle.sj_lower.proofs.Words.{Active, active_at, ap, sym, ◌∙◌, ◌≡◌}
 use Rattle.sj_lower.proofs.{Laying.active-is, Tasking.copies-room, Tasking.opens-by, Tasking.opens-full, Tasking.opens-none}
 use Rattle.sj_lower.proofs.contributions.open_operand.Goals as goal
 

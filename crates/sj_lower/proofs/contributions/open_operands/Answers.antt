@@ -1,4 +1,4 @@
-use Rattle.sj_lower.proofs.Words.{[], ap, arith, CanOpen, filter, is_contributed, is_redux, IsActiveChild, IsFullFor, length, OpensPhase, refl, sym, true, ◌∙◌, ◌≡◌}
+use Rattle.sj_lower.proofs.Words.{[], ap, arith, CanOpen, filter, is_contributed, is_redux, IsActiveChild, IsFullFor, length, OpensPhase, sym, true, ◌∙◌, ◌≡◌}
 use Rattle.sj_meaning.specs.declared.job.Operand.{Operand}
 use Rattle.std.proofs.lemmas.Result.{IfErr-weaker, on_ok_weaker}
 use Rattle.sj_lower.proofs.{Laying.none-at, Tasking.first-has, Tasking.not-none, Tasking.of-first}

@@ -1,4 +1,4 @@
-use Rattle.sj_lower.proofs.Words.{[], ap, append_assoc, arith, CellInfo, List, replicate, ℕ, ◌++◌, ◌∙◌, ◌∷◌}
+use Rattle.sj_lower.proofs.Words.{[], ap, append_assoc, CellInfo, List, replicate, ◌++◌, ◌∙◌, ◌∷◌}
 use Rattle.std.proofs.lemmas.List.{replicate-append-replicate}
 use Rattle.sj_lower.proofs.layout.push_copies.Goals as goal
 

@@ -1,4 +1,4 @@
-use Rattle.sj_lower.proofs.Words.{ap, arith, into_iter_items, IsLate, IsTable, Kept, late_limit, late_tasks, length, List, no_cells, nothing, statements_of, subst, sym, ◌∙◌}
+use Rattle.sj_lower.proofs.Words.{ap, arith, IsLate, IsTable, Kept, late_limit, late_tasks, length, List, statements_of, subst, sym, ◌∙◌}
 use Rattle.sj_base.proofs.Results.{handed}
 use Rattle.sj_lower.proofs.{Going.ended, Going.GoesOn, Going.going-full, Going.going-has, Going.going-more, Going.going-start, Going.IsMade, Going.IsShut, Going.made, Going.shut, Going.shut-over, Going.steps_from_start, Making.all-known, Making.in-order, Making.is-late, Making.is-lowered, Making.is-printed, Making.is-proper, Making.is-ready, Making.limit-is, Making.names-deliver-tasks}
 use Rattle.sj_lower.proofs.lower.lower.Goals as goal
