@@ -1,5 +1,5 @@
-use Rattle.sj_lower.proofs.Words.{arith, is_contributed, sym, ◌∙◌}
-use Rattle.sj_lower.proofs.Finding.{first-found, none-at-all, none-yet}
+use Rattle.sj_lower.proofs.Words.{is_contributed, sym, ◌∙◌}
+use Rattle.sj_lower.proofs.Finding.{first-found, none-yet}
 use Rattle.sj_lower.proofs.contributions.contributed.Goals as goal
 
 pub returns-then-is_contribution-clause-some : goal.returns-then-is_contribution-clause-some
