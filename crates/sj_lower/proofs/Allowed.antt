@@ -18,13 +18,8 @@ all-sound has k S (s ∷ ss) w = (sound_from_allowed has k S s.act w.0, all-soun
 
 -- the same by names: a job can't name the codelet that delivers
 abbrev DoesNotDeliver : Act (List ℕ) → Type 0
-DoesNotDeliver (Registers r) = Unit {0}
-DoesNotDeliver (Plans name p) = Unit {0}
-DoesNotDeliver (Reduces name by) = Unit {0}
 DoesNotDeliver (Tasks t) = kernel_of t.codelet ≡ Some Deliver → ⊥
-DoesNotDeliver (Prints name) = Unit {0}
-DoesNotDeliver (Invalidates name) = Unit {0}
-DoesNotDeliver (Unregisters name) = Unit {0}
+DoesNotDeliver _ = Unit {0}
 
 -- a codelet with a name doesn't deliver
 named_isn't : (name : List ℕ) (k : Kernel) → has_name name k ≡ true → kernel_of (codelet_of k) ≡ Some Deliver → ⊥
@@ -48,13 +43,8 @@ nameable has s (form.Unregister name) act e = subst DoesNotDeliver (unless_parts
 
 -- the names say nothing of the codelet
 silent-at : (T : Table) (k : ℕ) (a : KeptAct) → DoesNotDeliver (act_seen T k a) → IsSilent (act_at T k a)
-silent-at T k (kept.Register init) h = tt
-silent-at T k (kept.Plan r p valued) h = tt
-silent-at T k (kept.Redux r by) h = tt
 silent-at T k (kept.Task t) h = h
-silent-at T k (kept.Print r) h = tt
-silent-at T k (kept.Invalidate r) h = tt
-silent-at T k (kept.Unregister r) h = tt
+silent-at T k a h = tt
 
 -- of a kept job's statements, before which k roots were registered and n statements stand
 pub all-silent : (has : Kernel → Bool) (T : Table) (k n : ℕ) (S : JobState) (ss : List Kept) → IsWell has n S (seen_from T k ss) → AreSilent (statements_from T k ss)

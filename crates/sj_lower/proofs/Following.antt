@@ -1,17 +1,14 @@
 -- The statements of a job, one after another: the cells of the program without phases agree with the roots before each.
-use Rattle.sj_lower.proofs.Words.{[], Act, apply_at, AreSoundAt, Bool, by_number, Cell, contributed, fold, IsSoundAt, Kernel, Laid, length, Line, List, Lookup, Lowered, map, open_at, OpenReductions, operand_cell, plain_rows, Plans, Program, Registers, RootState, Statement, step_of, Tasks, with_copies, with_handle, ℕ, ◌++◌, ◌+◌, ◌∷◌}
+use Rattle.sj_lower.proofs.Words.{[], Act, apply_at, AreSoundAt, Bool, by_number, contributed, IsSoundAt, Kernel, Laid, length, Line, List, Lookup, Lowered, map, open_at, OpenReductions, operand_cell, plain_rows, Plans, Program, Registers, RootState, Statement, step_of, Tasks, with_copies, with_handle, ℕ, ◌++◌, ◌+◌, ◌∷◌}
+use Rattle.sj_phases.proofs.Lists.{fold_keeps}
 use Rattle.sj_lower.proofs.{Agrees.Agrees, Agrees.AreOpenChildren, Copying.copies-more, Copying.take-more, Folding.Stand, Folding.stand-append, Growing.Grows, Growing.grows-refl, Growing.grows-trans, Keeping.HasCells, Stepping.agrees-step}
 
 -- ---- cells are only added
 
-copied-grows : (workers : ℕ) (cs : List Cell) (C : Laid) → Grows C.rows (fold (with_copies workers) C cs).rows
-copied-grows workers [] C = grows-refl C.rows
-copied-grows workers (c ∷ cs) C = grows-trans C.rows (with_copies workers C c).rows (fold (with_copies workers) (with_copies workers C c) cs).rows (copies-more workers c C) (copied-grows workers cs (with_copies workers C c))
-
 pub step-grows : {N : Type 0} (workers : ℕ) (L : Lookup N) (C : Laid) (line : Line) (a : Act N) → Grows C.rows (step_of workers L C line a).laid.rows
 step-grows workers L C line (Registers r) = take-more (with_handle r.dims C) (length C.handles) r.parts
 step-grows workers L C line (Plans q p) = take-more C (L.number q) p
-step-grows workers L C line (Tasks t) = copied-grows workers (map (operand_cell L C) (contributed t)) C
+step-grows workers L C line (Tasks t) = fold_keeps (λ (D : Laid). Grows C.rows D.rows) (with_copies workers) (λ D c g. grows-trans C.rows D.rows (with_copies workers D c).rows g (copies-more workers c D)) C (map (operand_cell L C) (contributed t)) (grows-refl C.rows)
 step-grows workers L C line a = grows-refl C.rows
 
 -- the cells after statements

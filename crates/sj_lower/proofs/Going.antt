@@ -1,5 +1,5 @@
 -- A job lowered one statement after another, up to its end.
-use Rattle.sj_lower.proofs.Words.{[], Act, act_at, AddsAct, ap, apply_at, arith, by_number, Cell, cells_above, cells_after, cells_below, closed, Does, expanded, Expander, Expansion, fold, Goes, HasAt, HasNext, IsFullWith, IsLate, IsOverLimit, Kept, Laid, last_block, late_cells, late_tasks, Layout, LeavesStatements, length, Line, List, LoweringProgress, LoweringStep, LowerRefusal, map, MayComeInTurn, MayComeNext, most, no_cells, no_line, None, nothing, Option, over_after, Program, program_by, program_from, range_with_len, Refusal, RootState, Some, StandsAt, step_of, steps_at, StepsAt, subst, sym, Table, TaskBlock, tasks_above, TooManyTasks, vec_len, ℕ, ◌<◌, ◌∙◌, ◌∷◌, ◌≡◌, ◌≤◌}
+use Rattle.sj_lower.proofs.Words.{[], Act, act_at, AddsAct, ap, apply_at, arith, by_number, Cell, cells_above, cells_after, cells_below, closed, Does, expanded, Expander, Expansion, fold, Goes, HasNext, IsFullWith, IsLate, IsOverLimit, Kept, Laid, last_block, late_cells, late_tasks, Layout, LeavesStatements, length, Line, List, LoweringProgress, LoweringStep, LowerRefusal, map, MayComeInTurn, MayComeNext, most, no_cells, no_line, None, nothing, Option, over_after, Program, program_by, program_from, range_with_len, Refusal, RootState, Some, StandsAt, step_of, steps_at, StepsAt, subst, sym, Table, TaskBlock, tasks_above, TooManyTasks, vec_len, ℕ, ◌<◌, ◌∙◌, ◌∷◌, ◌≡◌, ◌≤◌}
 use Rattle.sj_lower.specs.declared.lower.LowerRefusal.TheVariants.{OutOfMemory, TooManyCells}
 use Rattle.sj_base.proofs.Numbers.{none_first}
 use Rattle.sj_phases.proofs.Doing.{own-nothing}
@@ -80,20 +80,13 @@ module _ (T : Table) (workers : ℕ) (x : LoweringProgress) (whole rest : List K
 
 -- ---- at the end
 
-pub done-has : (T : Table) (workers : ℕ) (x : LoweringProgress) (whole : List Kept) → GoesOn T workers x whole [] → HasAt x.steps.phases
-done-has T workers x whole w = record { expansion = w.expansion; at = w.at.phases }
-
-pub done-few : (T : Table) (workers : ℕ) (x : LoweringProgress) (whole : List Kept) → GoesOn T workers x whole [] → vec_len x.steps.layout.infos ≤ most
-done-few T workers x whole w =
-    let lays = w.at.layout.lays in
-    omega (arith, lays.few, ap length lays.rows, x.steps.layout.infos.ok)
+pub ended : (T : Table) (workers : ℕ) (x : LoweringProgress) (whole left : List Kept) → GoesOn T workers x whole left → length left ≡ 0 → GoesOn T workers x whole []
+ended T workers x whole [] w none = w
+ended T workers x whole (s ∷ left) w none = absurd (omega (arith, none))
 
 -- the cells from the first on are all cells
-all-cells : (n : ℕ) → cells_after 0 n ≡ cells_below n
-all-cells n = λ i. map (λ (k : ℕ). let c : Cell = record { 0 = none_first k i } in c) (range_with_len 0 n)
-
 pub closes-all : (old new : Expander) (line : Line) (n m : ℕ) → n ≡ m → Does old new line (λ E. fold (closed old.workers) E (cells_after 0 n)) → Does old new line (λ E. fold (closed old.workers) E (cells_below m))
-closes-all old new line n m same does = subst (λ (cs : List Cell). Does old new line (λ E. fold (closed old.workers) E cs)) (all-cells n ∙ ap cells_below same) does
+closes-all old new line n m same does = subst (λ (cs : List Cell). Does old new line (λ E. fold (closed old.workers) E cs)) (λ i. map (λ (k : ℕ). let c : Cell = record { 0 = none_first k i } in c) (range_with_len 0 (same i))) does
 
 -- all phases are closed
 pub record IsShut (workers : ℕ) (x : LoweringProgress) (xs : List LoweringStep) : Type 0 where
@@ -104,9 +97,10 @@ pub record IsShut (workers : ℕ) (x : LoweringProgress) (xs : List LoweringStep
   pub program : program_from x.steps.layout.infos.items workers expansion ≡ program_by workers xs
   pub late : late_by workers xs ≡ late_tasks x.steps.phases.over
 
-pub shut : (T : Table) (workers : ℕ) (old new : LoweringProgress) (whole : List Kept) → GoesOn T workers old whole [] → new.steps.layout ≡ old.steps.layout
+pub shut : (T : Table) (workers : ℕ) (old new : LoweringProgress) (whole left : List Kept) → GoesOn T workers old whole left → length left ≡ 0 → new.steps.layout ≡ old.steps.layout
     → Does old.steps.phases new.steps.phases old.last (λ E. fold (closed old.steps.phases.workers) E (cells_below (vec_len old.steps.layout.infos))) → IsShut workers new (steps_from_start workers T whole)
-shut T workers old new whole w layout does =
+shut T workers old new whole left going none layout does =
+    let w = ended T workers old whole left going none in
     let xs = steps_from_start workers T whole in
     let C = w.cells in
     let E = w.expansion in

@@ -1,9 +1,9 @@
 -- The deliveries of the program without phases hand over the children of what the print statements find, in order.
-use Rattle.sj_lower.proofs.Words.{[], a_delivery, a_root, Act, active_cells, AllByRecursion, ap, append_assoc, apply_at, AreSoundAt, arith, Array, Bool, by_number, Cell, cell_of, child, closing, cond, Contents, contributed, data_operands, deliver_row, Delivery, each_of, fold, get_or, given, handed_over, held_before, held_in, is_valued, IsPlace, IsSoundAt, Kernel, Laid, length, length-append, Line, List, Lowered, moved, open_at, OpenReductions, operand_cell, out, Parts, paste_row, pastes_of, place_of, places, plain_next, plain_rows, Plainly, plan_block, Plans, print_block, printed_at, Prints, prints_at, Program, range_with_len, refl, Registers, root_array, root_at, RootNumber, RootState, same_parts, Statement, step_of, subst, sym, take, task_of, TaskBlock, Tasks, true, units, window, with_handle, worked_on, zip, ℕ, ◌++◌, ◌+◌, ◌∙◌, ◌∷◌, ◌≡◌}
+use Rattle.sj_lower.proofs.Words.{[], a_delivery, a_root, Act, active_cells, AllByRecursion, ap, append_assoc, apply_at, AreSoundAt, arith, Array, Bool, by_number, Cell, cell_of, child, closing, cond, Contents, contributed, data_operands, deliver_row, Delivery, each_of, fold, get_or, given, handed_over, held_before, held_in, is_valued, IsPlace, IsSoundAt, Kernel, Laid, length, length-append, Line, List, Lowered, moved, open_at, OpenReductions, operand_cell, out, paste_row, pastes_of, place_of, places, plain_next, plain_rows, Plainly, Plans, print_block, printed_at, Prints, prints_at, Program, range_with_len, refl, Registers, root_array, root_at, RootNumber, RootState, same_parts, Statement, step_of, subst, sym, take, TaskBlock, Tasks, true, units, window, with_handle, worked_on, zip, ℕ, ◌++◌, ◌+◌, ◌∙◌, ◌∷◌, ◌≡◌}
 use Rattle.std.proofs.lemmas.{Bool.cond_both, List.append-nil, List.map-append, Simd.map-map}
 use Rattle.sj_base.proofs.Numbers.{length_more, none_more}
 use Rattle.sj_plan.proofs.Lists.{each-places}
-use Rattle.sj_lower.proofs.{Contents.contents-next, Contents.contents_before, Contents.first_worker, Contents.task_at, Copying.copies-prints, Elements.child-window, Elements.valued-child, Filling.after_deliver, Folding.after_row-is, Folding.Stand, Following.AllAgree, Following.IsAt, Following.rows_from, Keeping.HasRoot, Keeping.HaveRoots, Properly.blocks_from, Stepping.direct-delivers, Taken.take-prints}
+use Rattle.sj_lower.proofs.{Contents.contents-next, Contents.contents_before, Contents.first_worker, Contents.task_at, Copying.copies-prints, Elements.child-window, Elements.valued-child, Filling.after_deliver, Folding.after_row-is, Folding.Stand, Following.AllAgree, Following.rows_from, Keeping.HasRoot, Keeping.HaveRoots, Properly.blocks_from, Stepping.direct-delivers, Taken.take-prints}
 
 -- what a delivery hands over, and where that belongs
 abbrev pub Handed : Type 0
@@ -20,9 +20,6 @@ pieces_from k (x ∷ xs) = each_of (piece k x) (places x.1.parts) ++ pieces_from
 
 -- ---- the deliveries of one print statement
 
-given_there : (p : Program) (m : ℕ) (c : Cell) (line : Line) → task_of p (task_at m) ≡ deliver_row c line → given out p (task_at m) ≡ held_in p (contents_before p m) c
-given_there p m c line e = ap (λ (l : Lowered). held_before out p m (get_or (each_of (worked_on p first_worker) (data_operands l)) 0 (record { 0 = 0 }))) e
-
 module _ (q : Program) (C : Laid) (n : ℕ) (m : ℕ) (r : RootState) (k : ℕ) (line : Line) (valued : is_valued r ≡ true) (b : HasRoot q C n (contents_before q n) m r) where
   hands : (a : ℕ) (ps : List (ℕ × ℕ)) → AllByRecursion (IsPlace r.parts) ps → Stand q (n + a) (each_of (λ place. deliver_row (cell_of C m r.parts place) line) ps) → contents_before q (n + a) ≡ contents_before q n
       → each_of (handed_over q) (each_of (λ x. moved n (a_delivery m r.dims r.parts k x)) (zip (range_with_len a (length ps)) ps)) ≡ each_of (piece k (m, r)) ps
@@ -30,7 +27,7 @@ module _ (q : Program) (C : Laid) (n : ℕ) (m : ℕ) (r : RootState) (k : ℕ) 
   hands a (place ∷ ps) inside stand same =
       let c = cell_of C m r.parts place in
       let array : given out q (task_at (n + a)) ≡ window (root_array r) (child r.dims r.parts place) =
-      given_there q (n + a) c line stand.0 ∙ ap (λ (x : Contents). held_in q x c) same
+      ap (λ (l : Lowered). held_before out q (n + a) (get_or (each_of (worked_on q first_worker) (data_operands l)) 0 (record { 0 = 0 }))) stand.0 ∙ ap (λ (x : Contents). held_in q x c) same
       ∙ (b.held place inside.0 (valued-child r place b.whole valued inside.0)).value ∙ child-window r place in
       let next : n + (a + 1) ≡ (n + a) + 1 = omega arith in
       let later : contents_before q (n + (a + 1)) ≡ contents_before q n =
@@ -51,10 +48,6 @@ print-hands q C n m r k line cells valued b stand =
 
 -- ---- statements
 
--- no deliveries
-plan-none : (r : RootState) (old : List Cell) (C : Laid) (m : ℕ) (p : Parts) (line : Line) → (plan_block r old C m p line).deliveries ≡ []
-plan-none r old C m p line = cond_both (same_parts r.parts p) (closing line [] []) (closing line old (cond (is_valued r) (each_of (paste_row (cell_of C m r.parts) (cell_of C m p) line) (pastes_of r.dims r.parts p)) [])) (λ (b : TaskBlock). b.deliveries ≡ []) (λ e. refl) (λ e. refl)
-
 -- the deliveries of statements, whose tasks begin with number n
 abbrev pub deliveries_from : ℕ → List RootState → Laid → ℕ → List (Statement ℕ) → List Delivery
 deliveries_from workers rs C n [] = []
@@ -63,23 +56,20 @@ deliveries_from workers rs C n (s ∷ ss) =
     moved_deliveries n x.block ++ deliveries_from workers (apply_at s.act rs) x.laid (n + length (plain_rows x.block)) ss
 
 -- they hand over the children of what is printed
-hands-step : (has : Kernel → Bool) (q : Program) (C : Laid) (rs : List RootState) (n : ℕ) (was : OpenReductions) (s : Statement ℕ) → IsSoundAt has rs s.act → IsAt q C rs n was s
-    → each_of (handed_over q) (moved_deliveries n (step_of q.workers (by_number rs) C s.line s.act).block) ≡ pieces_from C.prints (prints_at s.act rs)
-hands-step has q C rs n was s sound at = by_act s.act sound at.agrees.roots at.stand
-  where
-    by_act : (a : Act ℕ) → IsSoundAt has rs a → HaveRoots q C n (contents_before q n) rs → Stand q n (plain_rows (step_of q.workers (by_number rs) C s.line a).block)
-        → each_of (handed_over q) (moved_deliveries n (step_of q.workers (by_number rs) C s.line a).block) ≡ pieces_from C.prints (prints_at a rs)
-    by_act (Plans m p) sound roots stand =
-        let b = plan_block (root_at rs m) (active_cells (by_number rs) C m) (take m p C) m p s.line in
-        ap (λ ds. each_of (handed_over q) (each_of (moved (n + length (units b))) ds)) (plan-none (root_at rs m) (active_cells (by_number rs) C m) (take m p C) m p s.line)
-    by_act (Prints m) sound roots stand =
-        print-hands q C n m (root_at rs m) C.prints s.line (active_cells (by_number rs) C m) sound.1 (roots m sound.0)
-        (subst (Stand q n) (direct-delivers (cell_of C m (root_at rs m).parts) s.line (places (root_at rs m).parts)) stand)
-        ∙ sym (append-nil (each_of (piece C.prints (m, root_at rs m)) (places (root_at rs m).parts)))
-    by_act a sound roots stand = refl
+hands-step : (has : Kernel → Bool) (q : Program) (C : Laid) (rs : List RootState) (n : ℕ) (line : Line) (a : Act ℕ) → IsSoundAt has rs a → HaveRoots q C n (contents_before q n) rs → Stand q n (plain_rows (step_of q.workers (by_number rs) C line a).block)
+    → each_of (handed_over q) (moved_deliveries n (step_of q.workers (by_number rs) C line a).block) ≡ pieces_from C.prints (prints_at a rs)
+hands-step has q C rs n line (Plans m p) sound roots stand =
+    let r = root_at rs m in
+    let D = take m p C in
+    cond_both (same_parts r.parts p) (closing line [] []) (closing line (active_cells (by_number rs) C m) (cond (is_valued r) (each_of (paste_row (cell_of D m r.parts) (cell_of D m p) line) (pastes_of r.dims r.parts p)) [])) (λ (b : TaskBlock). each_of (handed_over q) (moved_deliveries n b) ≡ []) (λ e. refl) (λ e. refl)
+hands-step has q C rs n line (Prints m) sound roots stand =
+    print-hands q C n m (root_at rs m) C.prints line (active_cells (by_number rs) C m) sound.1 (roots m sound.0)
+    (subst (Stand q n) (direct-delivers (cell_of C m (root_at rs m).parts) line (places (root_at rs m).parts)) stand)
+    ∙ sym (append-nil (each_of (piece C.prints (m, root_at rs m)) (places (root_at rs m).parts)))
+hands-step has q C rs n line a sound roots stand = refl
 
 -- how many print statements there were
-prints-step : (workers : ℕ) (C : Laid) (rs : List RootState) (line : Line) (a : Act ℕ) → (step_of workers (by_number rs) C line a).laid.prints ≡ C.prints + length (prints_at a rs)
+pub prints-step : (workers : ℕ) (C : Laid) (rs : List RootState) (line : Line) (a : Act ℕ) → (step_of workers (by_number rs) C line a).laid.prints ≡ C.prints + length (prints_at a rs)
 prints-step workers C rs line (Registers r) = omega (arith, take-prints (with_handle r.dims C) (length C.handles) r.parts)
 prints-step workers C rs line (Plans m p) = omega (arith, take-prints C m p)
 prints-step workers C rs line (Tasks t) = omega (arith, copies-prints workers (each_of (operand_cell (by_number rs) C) (contributed t)) C)
@@ -99,7 +89,7 @@ all-handed has q [] C rs n was sound all = refl
 all-handed has q (s ∷ ss) C rs n was sound all =
     let x = step_of q.workers (by_number rs) C s.line s.act in
     map-append (handed_over q) (moved_deliveries n x.block) (deliveries_from q.workers (apply_at s.act rs) x.laid (n + length (plain_rows x.block)) ss)
-    ∙ (λ i. hands-step has q C rs n was s sound.0 all.0 i ++ all-handed has q ss x.laid (apply_at s.act rs) (n + length (plain_rows x.block)) (open_at was x.block) sound.1 all.1 i)
+    ∙ (λ i. hands-step has q C rs n s.line s.act sound.0 all.0.agrees.roots all.0.stand i ++ all-handed has q ss x.laid (apply_at s.act rs) (n + length (plain_rows x.block)) (open_at was x.block) sound.1 all.1 i)
     ∙ ap (λ k. pieces_from C.prints (prints_at s.act rs) ++ pieces_from k (printed_at (apply_at s.act rs) ss)) (prints-step q.workers C rs s.line s.act)
     ∙ sym (pieces-append C.prints (prints_at s.act rs) (printed_at (apply_at s.act rs) ss))
 

@@ -1,9 +1,10 @@
 -- The codelets of what statements give are those of the set by which they are sound.
-use Rattle.sj_lower.proofs.Words.{[], Act, active_cells, All, ap, apply_at, AreSoundAt, begin_rows, Bool, by_number, Cell, cell_of, cells_below, child_dims_at, closed, closing, codelet_of, combine_of, combine_row, combine_rows, cond, contributed, contributes_of, copy_at, Deliver, deliver_row, each_of, expand, expanded, Expansion, false, fits, flat_map, fold, has_reduction, init_of, init_row, init_rows, inl, inr, Invalidates, is_known, is_redux, is_valued, IsSoundAt, IsSoundTaskAt, Kernel, Laid, last_block, length, Line, List, list_any, Load, load_rows, LoadFill, Lowered, None, nothing, opened, opening_for, OpenPhase, Operand, operand_cell, Option, Parts, paste_row, pastes_of, phase_at, phase_turned, PhaseOpening, plan_block, Plans, prepared, Prints, range_with_len, Reduces, Reduction, refl, Registers, root_at, RootState, same_parts, Some, Statement, step_of, subst, sym, take, task_row, TaskBlock, TaskLine, Tasks, true, Unregisters, with_copies, with_handle, with_phase, ℕ, ◌&&◌, ◌++◌, ◌∙◌, ◌∷◌, ◌≡◌}
+use Rattle.sj_lower.proofs.Words.{[], Act, active_cells, All, AllByRecursion, ap, apply_at, AreSoundAt, begin_rows, Bool, by_number, Cell, cell_of, cells_below, child_dims_at, closed, closing, codelet_of, combine_of, combine_row, combine_rows, cond, contributed, contributes_of, copy_at, Deliver, deliver_row, each_of, expand, expanded, Expansion, false, fits, flat_map, fold, has_reduction, init_of, init_row, init_rows, inl, inr, Invalidates, is_known, is_redux, is_valued, IsSoundAt, IsSoundTaskAt, Kernel, Laid, last_block, length, Line, List, list_any, Load, load_rows, LoadFill, Lowered, None, nothing, opened, opening_for, OpenPhase, Operand, operand_cell, Option, Parts, paste_row, pastes_of, phase_at, phase_turned, PhaseOpening, plan_block, Plans, prepared, Prints, range_with_len, Reduces, Reduction, refl, Registers, root_at, RootState, same_parts, Some, Statement, step_of, subst, sym, take, task_row, TaskBlock, TaskLine, Tasks, true, Unregisters, with_copies, with_handle, with_phase, ℕ, ◌&&◌, ◌++◌, ◌∙◌, ◌∷◌, ◌≡◌}
 use Rattle.sj_codelet.specs.declared.kernel.Kernel.TheVariants.{Paste}
 use Rattle.std.proofs.lemmas.{Bool.and_parts, Bool.cases_Bool, Bool.cond_both, List.Elements.All-append, List.Elements.All-cons, List.Elements.All-from_recursion, List.Elements.All-head, List.Elements.All-nil, List.Elements.All-tail}
 use Rattle.sj_codelet.proofs.Table.{kernel_of-codelet_of}
 use Rattle.sj_plan.proofs.Lists.{each-map, each-of}
+use Rattle.sj_phases.proofs.Lists.{fold_keeps}
 use Rattle.sj_phases.proofs.Logging.{by_which, none_isn't, phase-other, phase-own, some_is}
 use Rattle.sj_lower.proofs.{Doing.kernel_there, Good.each-load, Operands.contributes-there, Operands.last-there, Operands.lawful-at, Operands.lawful-contribution, Operands.none-filter, Operands.one-opens, Operands.opening_by, Operands.reduction_of, Properly.blocks_from}
 
@@ -59,10 +60,6 @@ known-closed has w E c k = by_phase (E.phase c) refl
     by_phase None e = k
     by_phase (Some f) e = known-turned has (combine_rows f c w) c None E k (all-rows has (λ n. combine_row f.by c f.line (copy_at f.copies n)) (range_with_len 0 w) (λ n. known-kernel has (combine_of f.by) (and_parts (has (init_of f.by)) (has (combine_of f.by)) (k.reductions c f e)).1)) (λ g h. absurd (none_isn't g h))
 
-known-closes : (has : Kernel → Bool) (w : ℕ) (cs : List Cell) (E : Expansion) → AreKnown has E → AreKnown has (fold (closed w) E cs)
-known-closes has w [] E k = k
-known-closes has w (c ∷ cs) E k = known-closes has w cs (closed w E c) (known-closed has w E c k)
-
 known-begins : (has : Kernel → Bool) (w : ℕ) (o : PhaseOpening) (line : Line) → has_reduction has o.by ≡ true → All (IsKnown has) (begin_rows w o line)
 known-begins has w o line own =
     let unit = known-kernel has (init_of o.by) (and_parts (has (init_of o.by)) (has (combine_of o.by)) own).0 in
@@ -83,15 +80,10 @@ known-opens has w line (o ∷ os) E h k = known-opens has w line os (opened w li
 
 known-expanded : (has : Kernel → Bool) (w : ℕ) (E : Expansion) (b : TaskBlock) → AreKnownIn has b → AreKnown has E → AreKnown has (expanded w E b)
 known-expanded has w E b h k =
-    let ready = known-opens has w b.line b.opens (fold (closed w) E b.closes) h.reductions (known-closes has w b.closes E k) in
+    let ready = known-opens has w b.line b.opens (fold (closed w) E b.closes) h.reductions (fold_keeps (AreKnown has) (closed w) (known-closed has w) E b.closes k) in
     record { tasks = All-append (IsKnown has) (prepared w E b).tasks b.tasks ready.tasks h.tasks; reductions = ready.reductions }
 
--- of blocks, one after another
-abbrev pub AllKnown : (Kernel → Bool) → List TaskBlock → Type 0
-AllKnown has [] = Unit {0}
-AllKnown has (b ∷ bs) = AreKnownIn has b × AllKnown has bs
-
-pub known-expand : (has : Kernel → Bool) (w : ℕ) (bs : List TaskBlock) (E : Expansion) → AllKnown has bs → AreKnown has E → AreKnown has (expand w E bs)
+pub known-expand : (has : Kernel → Bool) (w : ℕ) (bs : List TaskBlock) (E : Expansion) → AllByRecursion (AreKnownIn has) bs → AreKnown has E → AreKnown has (expand w E bs)
 known-expand has w [] E h k = k
 known-expand has w (b ∷ bs) E h k = known-expand has w bs (expanded w E b) h.1 (known-expanded has w E b h.0 k)
 
@@ -144,7 +136,7 @@ known-step has w rs C line (Unregisters n) own s = known-quiet has line (active_
 
 -- ---- a job
 
-known-blocks : (has : Kernel → Bool) (w : ℕ) (ss : List (Statement ℕ)) (rs : List RootState) (C : Laid) (more : List TaskBlock) → HasOwn has → AreSoundAt has rs ss → AllKnown has more → AllKnown has (blocks_from w rs C ss ++ more)
+known-blocks : (has : Kernel → Bool) (w : ℕ) (ss : List (Statement ℕ)) (rs : List RootState) (C : Laid) (more : List TaskBlock) → HasOwn has → AreSoundAt has rs ss → AllByRecursion (AreKnownIn has) more → AllByRecursion (AreKnownIn has) (blocks_from w rs C ss ++ more)
 known-blocks has w [] rs C more own sound rest = rest
 known-blocks has w (s ∷ ss) rs C more own sound rest =
     let x = step_of w (by_number rs) C s.line s.act in

@@ -79,9 +79,6 @@ module _ (T : Table) (p : Program) (ss : List (Statement (List ℕ))) (xs : List
       All-from_recursion (λ (d : Delivery). P (handed_over p d)) p.deliveries
       (each-from_map P (handed_over p) p.deliveries (subst (AllByRecursion P) (sym handed) (all-pieces P xs 0 (λ j x place e at. subst (λ i. P (piece i x place)) (sym (none_first j)) (h j x place e at)))))
 
-  many : length (printed ss) ≡ length xs
-  many = ap length found ∙ length-map xs (found_as T.names)
-
   own : (k : ℕ) (x : ℕ × RootState) → slice_get xs k ≡ Some x → each_of (handed_over p) (deliveries_for p k) ≡ each_of (piece k x) (places x.1.parts)
   own k x e = map-filter (handed_over p) (λ (h : Handed). nat_eq h.2 k) p.deliveries ∙ ap (of_print k) handed ∙ ap (λ i. of_print i (pieces_from 0 xs)) (sym (none_first k)) ∙ pieces-of xs 0 k x e ∙ ap (λ i. each_of (piece i x) (places x.1.parts)) (none_first k)
 
@@ -116,7 +113,7 @@ module _ (T : Table) (p : Program) (ss : List (Statement (List ℕ))) (xs : List
     each = λ k y e.
         let g = get-found T.names xs k y (ap (λ ys. slice_get ys k) (sym found) ∙ e) in
         subst (IsPrinted T p k) g.2 (is-printed k g.0 g.1 (known k g.0 g.1));
-    below = of-all (λ (h : Handed). h.2 < length (printed ss)) (λ j x place e at. omega (arith, many, slice_get_within xs j x e));
+    below = of-all (λ (h : Handed). h.2 < length (printed ss)) (λ j x place e at. omega (arith, ap length found, length-map xs (found_as T.names), slice_get_within xs j x e));
     ascending = pairs-from_ordered (λ (d e : Delivery). d.print ≤ e.print) p.deliveries (ordered-from_map (λ (a b : Handed). a.2 ≤ b.2) (handed_over p) p.deliveries (subst (Ordered (λ (a b : Handed). a.2 ≤ b.2)) (sym handed) (rising-pieces xs 0)));
     rooted = of-all (λ (h : Handed). h.0.0 < length T.names) (λ j x place e at. (known j x e).below);
   }

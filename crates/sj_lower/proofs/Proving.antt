@@ -4,17 +4,6 @@ use Rattle.std.proofs.lemmas.{List.append-nil, List.Sums.fold-append}
 use Rattle.sj_phases.proofs.Expanded.{delivered, holds_plain, last-shuts, proper, start}
 use Rattle.sj_lower.proofs.{Agrees.Agrees, Copying.copies-none, Folding.Stand, Folding.stand-there, Following.all-agree, Following.AllAgree, Following.laid-grows, Following.laid_from, Following.rows_from, Growing.Grows, Growing.grows-refl, Handing.all-handed, Handing.deliveries_from, Handing.pieces_from, Handing.plain-deliveries, Handing.plain-tasks, Opens.opens-step, Orderly.orderly-nothing, Properly.blocks_from, Properly.orderly-all, Properly.proper-plain, Taken.laid-none, Taken.none_isn't}
 
--- before the first statement
-agrees-start : (q : Program) → Grows [] q.cells → Agrees q no_cells [] 0 none_open
-agrees-start q grows = record {
-  laid = laid-none;
-  copies = copies-none q.workers;
-  cells = grows;
-  roots = λ m lives. absurd (omega (arith, lives));
-  counted = refl;
-  opens = λ c by e. absurd (none_isn't by e);
-}
-
 stands : (q : Program) (ls : List Lowered) → q.tasks ≡ ls → Stand q 0 ls
 stands q ls e = stand-there q [] ls [] (e ∙ sym (append-nil ls))
 
@@ -23,7 +12,8 @@ agrees-all : (has : Kernel → Bool) (q : Program) (ss : List (Statement ℕ)) �
 agrees-all has q ss sound cells tasks =
     let grows : Grows (laid_from q.workers [] no_cells ss).rows q.cells = subst (λ (rows : List CellInfo). Grows (laid_from q.workers [] no_cells ss).rows rows) (sym cells) (grows-refl (laid_from q.workers [] no_cells ss).rows) in
     let begins : Grows [] q.cells = subst (λ (rows : List CellInfo). Grows [] rows) (sym cells) (laid-grows q.workers [] no_cells ss) in
-    all-agree has q (opens-step has q) ss no_cells [] 0 none_open sound (agrees-start q begins) grows (stands q (rows_from q.workers [] no_cells ss) tasks)
+    let starts : Agrees q no_cells [] 0 none_open = record { laid = laid-none; copies = copies-none q.workers; cells = begins; roots = λ m lives. absurd (omega (arith, lives)); counted = refl; opens = λ c by e. absurd (none_isn't by e) } in
+    all-agree has q (opens-step has q) ss no_cells [] 0 none_open sound starts grows (stands q (rows_from q.workers [] no_cells ss) tasks)
 
 -- a block more that has no tasks
 orderly-last : (p : Program) (was : OpenReductions) (bs : List TaskBlock) (b : TaskBlock) → AreOrderly p was bs → ((w : OpenReductions) → IsOrderly p w b) → AreOrderly p was (bs ++ b ∷ [])

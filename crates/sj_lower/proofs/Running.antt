@@ -1,29 +1,15 @@
 -- One statement after another, up to the end.
-use Rattle.sj_lower.proofs.Words.{[], Act, act_at, active_cells, ap, apply_at, AreLaidFor, AreSoundAt, arith, blocks_by, blocks_in, Bool, by_number, Cell, cell_of, cells_above, closing, cond, contributed, count_after, count_from, deliver_row, expand, expanded, Expansion, false, find, finds_at, first_above, fold, Goes, is_valued, IsSoundAt, Kept, Kernel, Laid, laid_by, last_block, last_line, LeavesStatements, length, length-append, Line, line_or, List, LoweringStep, map, MayComeInTurn, most, nat_lt, no_cells, None, nothing, open_at, OpenReductions, operand_cell, Option, option_map, over_after, paste_row, pastes_of, plain_rows, Plans, prepared, Prints, Program, program_by, program_from, refl, Registers, root_at, RootState, same_parts, says_value, Some, statements_from, step_of, Steps, steps_at, steps_from, subst, sym, Table, take, TaskBlock, Tasks, tasks_above, true, values_said, ℕ, ◌*◌, ◌++◌, ◌+◌, ◌<◌, ◌∙◌, ◌∷◌, ◌≡◌, ◌≤◌}
+use Rattle.sj_lower.proofs.Words.{[], Act, act_at, active_cells, ap, apply_at, AreLaidFor, AreSoundAt, arith, blocks_by, blocks_in, Bool, by_number, Cell, cell_of, cells_above, closing, cond, count_after, count_from, deliver_row, expand, expanded, Expansion, false, find, finds_at, first_above, fold, Goes, is_valued, IsSoundAt, Kept, Kernel, Laid, laid_by, last_block, last_line, LeavesStatements, length, length-append, Line, line_or, List, LoweringStep, map, MayComeInTurn, most, nat_lt, no_cells, None, nothing, open_at, OpenReductions, Option, option_map, over_after, paste_row, pastes_of, plain_rows, Plans, prepared, Prints, prints_at, Program, program_by, program_from, refl, root_at, RootState, same_parts, says_value, Some, statements_from, step_of, Steps, steps_at, steps_from, subst, sym, Table, take, TaskBlock, tasks_above, true, values_said, ℕ, ◌*◌, ◌++◌, ◌+◌, ◌<◌, ◌∙◌, ◌∷◌, ◌≡◌, ◌≤◌}
 use Rattle.std.proofs.lemmas.{Bool.cond_both, Bool.le-ltb, Bool.lt-ltb, List.length-map, List.Sums.fold-append}
 use Rattle.sj_base.proofs.{Lists.cons_same, Numbers.positive_product}
 use Rattle.sj_meaning.proofs.{Timely.length-apply, Views.counts-grow}
 use Rattle.sj_phases.proofs.Blocks.{goes-closes, goes-expanded, GoesOn}
-use Rattle.sj_lower.proofs.{Agrees.Agrees, Copying.copies-prints, Following.AllAgree, Naming.AreTold, Naming.Knows, Naming.knows-apply, Places.length-places, Taken.take-prints, Values.values_at}
-
--- ---- what is so before each statement
-
-whole-of : (q : Program) (C : Laid) (rs : List RootState) (n : ℕ) (was : OpenReductions) → Agrees q C rs n was → AreLaidFor q.workers rs C
-whole-of q C rs n was g = record { laid = g.laid; copies = g.copies; counted = g.counted; taken = λ m lives. let r = g.roots m lives in (r.first, r.taken) }
+use Rattle.sj_lower.proofs.{Following.AllAgree, Handing.prints-step, Naming.AreTold, Naming.Knows, Naming.knows-apply, Places.length-places, Values.values_at}
 
 -- ---- each print statement gives a task
 
 module _ (has : Kernel → Bool) (w : ℕ) (rs : List RootState) (C : Laid) (E : Expansion) (line : Line) (whole : AreLaidFor w rs C) (few : C.prints ≤ length E.tasks) where
-  stays : (a : Act ℕ) → (step_of w (by_number rs) C line a).laid.prints ≡ C.prints → let x = step_of w (by_number rs) C line a in x.laid.prints ≤ length (expanded w E x.block).tasks
-  stays a e =
-      let b = (step_of w (by_number rs) C line a).block in
-      let g = goes-expanded w E b in
-      omega (arith, e, few, ap length g.1, length-append E.tasks g.0)
-
   more-prints : (a : Act ℕ) → IsSoundAt has rs a → let x = step_of w (by_number rs) C line a in x.laid.prints ≤ length (expanded w E x.block).tasks
-  more-prints (Registers r) s = stays (Registers r) (take-prints _ (length C.handles) r.parts)
-  more-prints (Plans n p) s = stays (Plans n p) (take-prints C n p)
-  more-prints (Tasks t) s = stays (Tasks t) (copies-prints w (map (operand_cell (by_number rs) C) (contributed t)) C)
   more-prints (Prints n) s =
       let b = (step_of w (by_number rs) C line (Prints n)).block in
       let r = root_at rs n in
@@ -35,6 +21,11 @@ module _ (has : Kernel → Bool) (w : ℕ) (rs : List RootState) (C : Laid) (E :
       let before : length E.tasks ≤ length (prepared w E b).tasks = omega (arith, ap length closes.1, length-append E.tasks closes.0) in
       omega (arith, few, some, own, before, length-append (prepared w E b).tasks b.tasks)
   more-prints a s = stays a refl
+    where
+      stays : (a : Act ℕ) → length (prints_at a rs) ≡ 0 → let x = step_of w (by_number rs) C line a in x.laid.prints ≤ length (expanded w E x.block).tasks
+      stays a none =
+          let g = goes-expanded w E (step_of w (by_number rs) C line a).block in
+          omega (arith, prints-step w C rs line a, none, few, ap length g.1, length-append E.tasks g.0)
 
 -- ---- each statement may come next
 
@@ -47,7 +38,8 @@ are-ready T has q (s ∷ ss) rs C E n was table named sound told knows values ag
     let x = step_of q.workers (by_number rs) C s.line act in
     let more = length-apply T k s.act rs refl in
     let says = cons_same (says_value s.act) (finds_at rs act) (values_said ss) (values_at (apply_at act rs) (statements_from T (count_after k s.act) ss)) values in
-    let whole = whole-of q C rs n was agree.0.agrees in
+    let g = agree.0.agrees in
+    let whole : AreLaidFor q.workers rs C = record { laid = g.laid; copies = g.copies; counted = g.counted; taken = λ m lives. let r = g.roots m lives in (r.first, r.taken) } in
     let m = n + length (plain_rows x.block) in
     let now = open_at was x.block in
     let next = subst (λ i. (count_from i ss ≤ length T.names) × AreSoundAt has (apply_at act rs) (statements_from T i ss) × AreTold T (statements_from T i ss) × (values_said ss ≡ values_at (apply_at act rs) (statements_from T i ss)) × AllAgree q x.laid (apply_at act rs) m now (statements_from T i ss)) (sym more) (named, sound.1, told.1, says.1, agree.1) in (

@@ -4,9 +4,6 @@ use Rattle.sj_phases.proofs.Doing.{has-after}
 use Rattle.sj_lower.proofs.Arms.{does-close, does-start-close}
 use Rattle.sj_lower.proofs.contributions.close_from.Goals as goal
 
-pub returns-then-not-has_open : goal.returns-then-not-has_open
-returns-then-not-has_open c = c.has_open.ensures c.args.line (cells_after c.args.first c.args.count) c.if-not-has_open.true
-
 pub loop-k-init : goal.loop-k-init
 loop-k-init c = does-start-close c.args.phases.now c.args.line (cells_after c.args.first 0) refl
 

@@ -10,14 +10,8 @@ use Rattle.sj_lower.proofs.contributions.close_operands.Goals as goal
 abbrev cells : List Active → List Operand → List Cell
 cells actives os = map (cell_by actives) (filter is_other os)
 
-pub returns-then-not-has_open : goal.returns-then-not-has_open
-returns-then-not-has_open c = c.has_open.ensures c.args.line (cells c.args.layout.now.actives.items c.args.operands.now) c.if-not-has_open.true
-
 pub loop-operand-init : goal.loop-operand-init
 loop-operand-init c = does-start-close c.args.phases.now c.args.line [] refl
-
-pub cell-requires : goal.cell-requires
-cell-requires c = c.requires.inside c.loop-operand.operand-index _ c.loop-operand-test.true
 
 pub close-requires : goal.close-requires
 close-requires c = record { at = has-after c.args.phases.now c.loop-operand.phases c.args.line _ c.loop-operand.invariant c.requires.at }

@@ -1,5 +1,5 @@
-use Rattle.sj_lower.proofs.Words.{arith, is_contributed, sym, ◌∙◌}
-use Rattle.sj_lower.proofs.Finding.{first-found, none-at-all, none-yet}
+use Rattle.sj_lower.proofs.Words.{is_contributed, sym, ◌∙◌}
+use Rattle.sj_lower.proofs.Finding.{first-found, none-yet}
 use Rattle.sj_lower.proofs.contributions.contributed.Goals as goal
 
 pub returns-then-is_contribution-clause-some : goal.returns-then-is_contribution-clause-some
@@ -9,6 +9,3 @@ returns-then-is_contribution-clause-some c =
 pub loop-operand-preserved : goal.loop-operand-preserved
 loop-operand-preserved c =
     none-yet is_contributed c.args.operands.now c.loop-operand.operand-index _ c.loop-operand-test.true c.loop-operand.invariant (sym c.is_contribution.ensures ∙ c.if-is_contribution.false)
-
-pub returns-clause-none : goal.returns-clause-none
-returns-clause-none c = none-at-all is_contributed c.args.operands.now c.loop-operand.operand-index (omega (arith, c.loop-operand-test.false)) c.loop-operand.invariant

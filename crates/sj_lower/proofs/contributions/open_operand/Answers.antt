@@ -1,9 +1,6 @@
-use Rattle.sj_lower.proofs.Words.{Active, active_at, ap, arith, Cell, cell_by, length, subst, sym, vec_len, ◌<◌, ◌∙◌, ◌≡◌}
+use Rattle.sj_lower.proofs.Words.{Active, active_at, ap, sym, ◌∙◌, ◌≡◌}
 use Rattle.sj_lower.proofs.{Laying.active-is, Tasking.copies-room, Tasking.opens-by, Tasking.opens-full, Tasking.opens-none}
 use Rattle.sj_lower.proofs.contributions.open_operand.Goals as goal
-
-pub index-requires : goal.index-requires
-index-requires c = omega (arith, c.requires.inside.has.root, c.args.layout.now.actives.ok)
 
 pub returns-in_default-clause-opens : goal.returns-in_default-clause-opens
 returns-in_default-clause-opens c =
@@ -12,16 +9,6 @@ returns-in_default-clause-opens c =
     let o = c.args.operand in
     let is : c.index.result.now ≡ active_at l.actives.items o.root.0 = active-is l.actives.items o.root.0 c.index.result.now c.requires.inside.has.root c.index.ensures in
     opens-none l l a a o c.args.valued c.args.line (ap (λ (x : Active). x.reduction) (sym is) ∙ c.in_default.is)
-
-pub copies-requires-clause-few : goal.copies-requires-clause-few
-copies-requires-clause-few c = let can = c.requires.can in omega (arith, ap length can.lays.rows, can.lays.few, c.args.layout.now.infos.ok)
-
-pub copies-requires-clause-cell : goal.copies-requires-clause-cell
-copies-requires-clause-cell c =
-    let l = c.args.layout.now in
-    let can = c.requires.can in
-    let there : (cell_by l.actives.items c.args.operand).0 < vec_len l.infos = omega (arith, can.there, ap length can.lays.rows, l.infos.ok) in
-    subst (λ (x : Cell). x.0 < vec_len l.infos) (sym c.cell-cell.ensures) there
 
 pub returns-in_default-2-clause-full : goal.returns-in_default-2-clause-full
 returns-in_default-2-clause-full c =

@@ -1,11 +1,8 @@
-use Rattle.sj_lower.proofs.Words.{[], ap, arith, CanOpen, filter, is_contributed, is_redux, IsActiveChild, IsFullFor, length, OpensPhase, refl, sym, true, ◌∙◌, ◌≡◌}
+use Rattle.sj_lower.proofs.Words.{[], ap, arith, CanOpen, filter, is_contributed, is_redux, IsActiveChild, IsFullFor, length, OpensPhase, sym, true, ◌∙◌, ◌≡◌}
 use Rattle.sj_meaning.specs.declared.job.Operand.{Operand}
 use Rattle.std.proofs.lemmas.Result.{IfErr-weaker, on_ok_weaker}
 use Rattle.sj_lower.proofs.{Laying.none-at, Tasking.first-has, Tasking.not-none, Tasking.of-first}
 use Rattle.sj_lower.proofs.contributions.open_operands.Goals as goal
-
-pub returns-in_default-clause-none : goal.returns-in_default-clause-none
-returns-in_default-clause-none c = λ e. (refl, refl)
 
 pub returns-in_default-clause-opens : goal.returns-in_default-clause-opens
 returns-in_default-clause-opens c = λ o rest e.

@@ -1,4 +1,4 @@
-use Rattle.sj_lower.proofs.Words.{[], ap, append_assoc, arith, CellInfo, List, replicate, ℕ, ◌++◌, ◌∙◌, ◌∷◌}
+use Rattle.sj_lower.proofs.Words.{[], ap, append_assoc, CellInfo, List, replicate, ◌++◌, ◌∙◌, ◌∷◌}
 use Rattle.std.proofs.lemmas.List.{replicate-append-replicate}
 use Rattle.sj_lower.proofs.layout.push_copies.Goals as goal
 
@@ -8,7 +8,3 @@ loop-preserved c =
     let old = c.args.infos.now.items in
     c.in_ok-push.ensures.items ∙ ap (λ (is : List CellInfo). is ++ i ∷ []) c.loop.invariant ∙ append_assoc old (replicate c.loop.counter i) (i ∷ [])
     ∙ ap (λ (is : List CellInfo). old ++ is) (replicate-append-replicate c.loop.counter 1 i)
-
-pub returns : goal.returns
-returns c =
-    c.loop.invariant ∙ ap (λ (n : ℕ). c.args.infos.now.items ++ replicate n c.args.info) (omega (arith, c.loop.auto.counter-end, c.loop-test.false))

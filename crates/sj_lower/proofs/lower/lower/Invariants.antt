@@ -4,6 +4,6 @@ use Rattle.sj_lower.proofs.lower.lower.Given as goal
 
 abbrev pub invariant-loop-statement : goal.invariant-loop-statement
 invariant-loop-statement l = record {
-  going : GoesOn l.fn.job.roots l.fn.workers l.progress (into_iter_items l.initial.statement-iterator) (into_iter_items l.statement-iterator);
+  going : GoesOn l.fn.job.roots l.fn.workers l.progress l.fn.job.statements (into_iter_items l.statement-iterator);
   left : into_iter_len l.statement-iterator ≡ length (into_iter_items l.statement-iterator);
 }

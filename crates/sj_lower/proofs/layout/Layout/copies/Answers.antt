@@ -6,20 +6,16 @@ use Rattle.sj_lower.proofs.layout.Layout.copies.Goals as goal
 
 pub returns-in-Some-clause-copied : goal.returns-in-Some-clause-copied
 returns-in-Some-clause-copied c = λ C s.
-    let is = c.args.self.now.infos.items in
-    let i = c.args.cell.0 in
-    let info = c.index-info.result.now in
-    let there : i < length is = omega (arith, c.requires.cell, c.args.self.now.infos.ok) in
-    lays-copied c.args.self.now C c.args.cell c.in-Some.first c.args.workers s (ap (λ (x : CellInfo). x.partials) (sym (c.index-info.ensures ∙ get_or_default is i info no_cell there)) ∙ c.in-Some.is)
+    let l = c.args.self.now in
+    let there : c.args.cell.0 < length l.infos.items = omega (arith, c.requires.cell, l.infos.ok) in
+    lays-copied l C c.args.cell c.in-Some.first c.args.workers s (ap (λ (x : CellInfo). x.partials) (sym (c.index-info.ensures ∙ get_or_default l.infos.items c.args.cell.0 _ no_cell there)) ∙ c.in-Some.is)
 
 pub returns-then-first-workers-gt-MOST-clause-full : goal.returns-then-first-workers-gt-MOST-clause-full
 returns-then-first-workers-gt-MOST-clause-full c = λ C s.
-    let is = c.args.self.now.infos.items in
-    let i = c.args.cell.0 in
-    let info = c.index-info.result.now in
-    let there : i < length is = omega (arith, c.requires.cell, c.args.self.now.infos.ok) in
-    copies-full c.args.self.now C c.args.cell c.args.workers s there (ap (λ (x : CellInfo). x.partials) (sym (c.index-info.ensures ∙ get_or_default is i info no_cell there)) ∙ c.in_default.is)
-    (omega (arith, c.len-first.ensures, c.args.self.now.infos.ok, c.if-first-workers-gt-MOST.true))
+    let l = c.args.self.now in
+    let there : c.args.cell.0 < length l.infos.items = omega (arith, c.requires.cell, l.infos.ok) in
+    copies-full l C c.args.cell c.args.workers s there (ap (λ (x : CellInfo). x.partials) (sym (c.index-info.ensures ∙ get_or_default l.infos.items c.args.cell.0 _ no_cell there)) ∙ c.in_default.is)
+    (omega (arith, c.len-first.ensures, l.infos.ok, c.if-first-workers-gt-MOST.true))
 
 pub returns-clause-copied : goal.returns-clause-copied
 returns-clause-copied c = λ C s.

@@ -1,17 +1,10 @@
-use Rattle.sj_lower.proofs.Words.{arith, Placed, refl, subst, sym, vec_len, ◌<◌, ◌≡◌}
-use Rattle.sj_base.proofs.Options.{IfSome-at}
+use Rattle.sj_lower.proofs.Words.{arith, refl}
 use Rattle.sj_lower.proofs.Laying.{plans, plans-full}
 use Rattle.sj_lower.proofs.layout.Layout.plan.Goals as goal
 
 pub returns-in_default-clause-full : goal.returns-in_default-clause-full
 returns-in_default-clause-full c =
     plans-full c.args.self.now c.args.root.0 c.args.dims c.args.parts c.in_ok-placed.field-0 c.in_default.is c.in_ok-placed.ensures.full (omega (arith, c.requires.root, c.args.self.now.actives.ok))
-
-pub index_mut-requires : goal.index_mut-requires
-index_mut-requires c = subst (λ v. c.args.root.0 < vec_len v) (sym c.in_ok-placed.ensures.actives) c.requires.root
-
-pub returns-clause-parts : goal.returns-clause-parts
-returns-clause-parts c = IfSome-at (λ (x : Placed). x.parts ≡ c.args.parts) c.in_ok-placed.field-0 c.in-Some.placed c.in-Some.is c.in_ok-placed.ensures.parts
 
 pub returns-clause-laid : goal.returns-clause-laid
 returns-clause-laid c =

@@ -1,14 +1,10 @@
-use Rattle.sj_lower.proofs.Words.{arith, Placed, refl, ◌≡◌}
-use Rattle.sj_base.proofs.Options.{IfSome-at}
+use Rattle.sj_lower.proofs.Words.{arith, refl}
 use Rattle.sj_lower.proofs.Laying.{registers, registers-full}
 use Rattle.sj_lower.proofs.layout.Layout.register.Goals as goal
 
 pub returns-in_default-clause-full : goal.returns-in_default-clause-full
 returns-in_default-clause-full c =
     registers-full c.args.self.now c.args.info.dims c.args.info.parts _ c.in_ok-placed.field-0 c.in_default.is c.in_ok-placed.ensures.full (omega (arith, c.args.self.now.actives.ok))
-
-pub returns-clause-parts : goal.returns-clause-parts
-returns-clause-parts c = IfSome-at (λ (x : Placed). x.parts ≡ c.args.info.parts) c.in_ok-placed.field-0 c.in-Some.placed c.in-Some.is c.in_ok-placed.ensures.parts
 
 pub returns-clause-laid : goal.returns-clause-laid
 returns-clause-laid c =
