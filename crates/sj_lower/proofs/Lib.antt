@@ -24,7 +24,6 @@ pub mod Good
 pub mod Orderly
 pub mod Opens
 pub mod OrderlySteps
-pub mod Goods
 pub mod Properly
 pub mod Handing
 pub mod Sounding

@@ -3,7 +3,7 @@ use Rattle.sj_lower.proofs.Words.{[], Act, active_cells, ap, apply_at, AreLaid, 
 use Rattle.std.proofs.lemmas.Bool.{cases_Bool, cond_both, false≢true}
 use Rattle.sj_core.proofs.Readiness.{Contains-map}
 use Rattle.sj_plan.proofs.Lists.{each-map, each-places}
-use Rattle.sj_lower.proofs.{Agrees.Agrees, Contents.contents_before, Contents.task_at, Contributing.fold-handles, Contributing.good-line, Contributing.roots-copied, Contributing.same-cells, Copying.copied-first, Doing.the_cell, Elements.valued-child, Folding.Stand, Following.IsAt, Good.AreGood, Good.cell-there, Good.good-all, Good.good_deliver, Good.good_pastes, Good.IsGood, Goods.good_loads, Keeping.lives-below, Opens.copied-opens, Opens.kept-cell, Opens.place-in, Opens.Takes, Opens.takes-planned, Opens.takes-registered, Operands.contributes-there, Orderly.orderly-direct, Orderly.orderly-gift, Orderly.orderly-loads, Orderly.orderly-nothing, Orderly.orderly-pastes, Orderly.orderly-prints, Orderly.plain-child, Places.parts-itself, Stepping.direct-delivers, Stepping.direct-loads, Starting.direct-pastes, Starting.Keeps, Taken.cell-inside, Taken.cells-apart}
+use Rattle.sj_lower.proofs.{Agrees.Agrees, Contents.contents_before, Contents.task_at, Contributing.fold-handles, Contributing.good-line, Contributing.roots-copied, Contributing.same-cells, Copying.copied-first, Doing.the_cell, Elements.valued-child, Folding.Stand, Following.IsAt, Good.AreGood, Good.cell-there, Good.good-all, Good.good_deliver, Good.good_pastes, Good.IsGood, Good.good_loads, Keeping.lives-below, Opens.copied-opens, Opens.kept-cell, Opens.place-in, Opens.Takes, Opens.takes-planned, Opens.takes-registered, Operands.contributes-there, Orderly.orderly-direct, Orderly.orderly-gift, Orderly.orderly-loads, Orderly.orderly-nothing, Orderly.orderly-pastes, Orderly.orderly-prints, Orderly.plain-child, Places.parts-itself, Stepping.direct-delivers, Stepping.direct-loads, Starting.direct-pastes, Starting.Keeps, Taken.cell-inside, Taken.cells-apart}
 
 -- a child's cell on which no phase is open, where its plan is taken now: no open child is that of its root and plan
 not-open : (q : Program) (C D : Laid) (rs : List RootState) (n : ℕ) (was : OpenReductions) (m : ℕ) (d : Dims) (s : Parts) (place : ℕ × ℕ) → AreLaid D → Agrees q C rs n was → Takes C D m d s → IsPlace s place → ((i : ℕ) → Lives rs i → m ≡ i → s ≡ (root_at rs i).parts → ⊥) → was (cell_of D m s place) ≡ None
