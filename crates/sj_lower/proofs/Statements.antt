@@ -76,9 +76,6 @@ module _ (T : Table) (old : Steps) (init : Init) (h : HasNext T old (kept.Regist
     fixed : info ≡ info_of T (a_root (length rs))
     fixed = is ∙ ap (λ (n : ℕ). info_of T (a_root n)) (count ∙ register-count)
 
-    pub register-fits : Fits info.parts info.dims
-    register-fits = subst (λ (i : RootInfo). Fits i.parts i.dims) (sym fixed) h.next.sound.parts
-
     module _ (o : Option Placed) (placed : Placed) (found : o ≡ Some placed) (parts : IfSome o (λ x. x.parts ≡ info.parts)) where
       cut : placed.parts ≡ info.parts
       cut = IfSome-at (λ (x : Placed). x.parts ≡ info.parts) o placed found parts
@@ -120,10 +117,6 @@ abbrev pub Plans : Layout → Layout → RootNumber → Dims → Parts → Place
 Plans l m root d p new =
     (rs : List RootState) (C : Laid) → Follows l rs C → Lives rs root.0 → length C.handles ≡ length rs → (handle_at C root.0).dims ≡ d
     → Follows m (change_at (with_parts p) root.0 rs) (take root.0 p C) × ((handle_at (take root.0 p C) root.0).first p ≡ Some new.first)
-
--- with it there are too many cells
-abbrev pub HasNoRoomFor : Layout → RootNumber → Dims → Parts → Type 0
-HasNoRoomFor l root d p = (rs : List RootState) (C : Laid) → Follows l rs C → (handle_at C root.0).dims ≡ d → most < length (take root.0 p C).rows
 
 -- the old children are pasted into the new ones
 abbrev pub Pastes : Expander → Expander → Line → Dims → Placed → Placed → Type 0

@@ -4,21 +4,15 @@ use Rattle.sj_lower.proofs.steps.Steps.add.Goals as goal
 
 pub returns-in_ok-register-in-Register-clause-adds : goal.returns-in_ok-register-in-Register-clause-adds
 returns-in_ok-register-in-Register-clause-adds c =
-    let T = c.args.roots.now in
-    let s = c.args.statement in
-    subst (λ (a : KeptAct). AddsAct T c.args.self.now c.register.new.self a s.line) (sym c.in-Register.is) c.in_ok-register-in-Register.ensures.adds
+    subst (λ (a : KeptAct). AddsAct c.args.roots.now c.args.self.now c.register.new.self a c.args.statement.line) (sym c.in-Register.is) c.in_ok-register-in-Register.ensures.adds
 
 pub returns-in_ok-plan-in-Plan-clause-adds : goal.returns-in_ok-plan-in-Plan-clause-adds
 returns-in_ok-plan-in-Plan-clause-adds c =
-    let T = c.args.roots.now in
-    let s = c.args.statement in
-    subst (λ (a : KeptAct). AddsAct T c.args.self.now c.plan.new.self a s.line) (sym c.in-Plan.is) c.in_ok-plan-in-Plan.ensures.adds
+    subst (λ (a : KeptAct). AddsAct c.args.roots.now c.args.self.now c.plan.new.self a c.args.statement.line) (sym c.in-Plan.is) c.in_ok-plan-in-Plan.ensures.adds
 
 pub returns-in-Redux-clause-adds : goal.returns-in-Redux-clause-adds
 returns-in-Redux-clause-adds c =
-    let T = c.args.roots.now in
-    let s = c.args.statement in
-    subst (λ (a : KeptAct). AddsAct T c.args.self.now c.reduce.new.self a s.line) (sym c.in-Redux.is) (c.reduce.ensures T)
+    subst (λ (a : KeptAct). AddsAct c.args.roots.now c.args.self.now c.reduce.new.self a c.args.statement.line) (sym c.in-Redux.is) (c.reduce.ensures c.args.roots.now)
 
 pub returns-in_err-task-in-Task-clause-full : goal.returns-in_err-task-in-Task-clause-full
 returns-in_err-task-in-Task-clause-full c =
@@ -29,9 +23,7 @@ returns-in_err-task-in-Task-clause-full c =
 
 pub returns-in_ok-task-in-Task-clause-adds : goal.returns-in_ok-task-in-Task-clause-adds
 returns-in_ok-task-in-Task-clause-adds c =
-    let T = c.args.roots.now in
-    let s = c.args.statement in
-    subst (λ (a : KeptAct). AddsAct T c.args.self.now c.task.new.self a s.line) (sym c.in-Task.is) (c.in_ok-task-in-Task.ensures.adds T)
+    subst (λ (a : KeptAct). AddsAct c.args.roots.now c.args.self.now c.task.new.self a c.args.statement.line) (sym c.in-Task.is) (c.in_ok-task-in-Task.ensures.adds c.args.roots.now)
 
 pub returns-in_err-invalidate-in-Invalidate-clause-full : goal.returns-in_err-invalidate-in-Invalidate-clause-full
 returns-in_err-invalidate-in-Invalidate-clause-full c =
@@ -42,9 +34,7 @@ returns-in_err-invalidate-in-Invalidate-clause-full c =
 
 pub returns-in_ok-invalidate-in-Invalidate-clause-adds : goal.returns-in_ok-invalidate-in-Invalidate-clause-adds
 returns-in_ok-invalidate-in-Invalidate-clause-adds c =
-    let T = c.args.roots.now in
-    let s = c.args.statement in
-    subst (λ (a : KeptAct). AddsAct T c.args.self.now c.invalidate.new.self a s.line) (sym c.in-Invalidate.is) (c.in_ok-invalidate-in-Invalidate.ensures.adds T)
+    subst (λ (a : KeptAct). AddsAct c.args.roots.now c.args.self.now c.invalidate.new.self a c.args.statement.line) (sym c.in-Invalidate.is) (c.in_ok-invalidate-in-Invalidate.ensures.adds c.args.roots.now)
 
 pub returns-in_err-unregister-in-Unregister-clause-full : goal.returns-in_err-unregister-in-Unregister-clause-full
 returns-in_err-unregister-in-Unregister-clause-full c =
@@ -55,6 +45,4 @@ returns-in_err-unregister-in-Unregister-clause-full c =
 
 pub returns-in_ok-unregister-in-Unregister-clause-adds : goal.returns-in_ok-unregister-in-Unregister-clause-adds
 returns-in_ok-unregister-in-Unregister-clause-adds c =
-    let T = c.args.roots.now in
-    let s = c.args.statement in
-    subst (λ (a : KeptAct). AddsAct T c.args.self.now c.unregister.new.self a s.line) (sym c.in-Unregister.is) (c.in_ok-unregister-in-Unregister.ensures.adds T)
+    subst (λ (a : KeptAct). AddsAct c.args.roots.now c.args.self.now c.unregister.new.self a c.args.statement.line) (sym c.in-Unregister.is) (c.in_ok-unregister-in-Unregister.ensures.adds c.args.roots.now)

@@ -1,5 +1,5 @@
 use Rattle.sj_lower.proofs.Words.{refl, Steps, sym, ◌∙◌}
-use Rattle.sj_lower.proofs.Statements.{active-fits, active-room, bare-adds, pastes-adds, plan-cells, plan-lives, same-adds}
+use Rattle.sj_lower.proofs.Statements.{active-fits, active-room, bare-adds, pastes-adds, plan-cells, same-adds}
 use Rattle.sj_meaning.specs.declared.job.Act.TheVariants as kept
 use Rattle.sj_lower.proofs.steps.Steps.plan.Goals as goal
 
@@ -12,9 +12,7 @@ returns-then-eq-clause-adds c =
 
 pub close_plan-requires-clause-cells : goal.close_plan-requires-clause-cells
 close_plan-requires-clause-cells c =
-    let T = c.args.roots.now in
-    let old = c.args.self.now in
-    active-room T old (kept.Plan c.args.root c.args.parts c.args.valued) c.args.root.0 c.requires c.placed-old.result (plan-lives T old c.args.root c.args.parts c.args.valued c.requires) c.placed-old.ensures
+    active-room c.args.roots.now c.args.self.now (kept.Plan c.args.root c.args.parts c.args.valued) c.args.root.0 c.requires c.placed-old.result c.requires.next.sound.0.lives c.placed-old.ensures
 
 pub returns-then-not-valued-clause-adds : goal.returns-then-not-valued-clause-adds
 returns-then-not-valued-clause-adds c =
@@ -25,15 +23,11 @@ returns-then-not-valued-clause-adds c =
 
 pub push_pastes-requires-clause-old_plan : goal.push_pastes-requires-clause-old_plan
 push_pastes-requires-clause-old_plan c =
-    let T = c.args.roots.now in
-    let old = c.args.self.now in
-    active-fits T old (kept.Plan c.args.root c.args.parts c.args.valued) c.args.root.0 c.requires c.placed-old.result c.info.result (plan-lives T old c.args.root c.args.parts c.args.valued c.requires) c.placed-old.ensures c.info.ensures
+    active-fits c.args.roots.now c.args.self.now (kept.Plan c.args.root c.args.parts c.args.valued) c.args.root.0 c.requires c.placed-old.result c.info.result c.requires.next.sound.0.lives c.placed-old.ensures c.info.ensures
 
 pub push_pastes-requires-clause-old_cells : goal.push_pastes-requires-clause-old_cells
 push_pastes-requires-clause-old_cells c =
-    let T = c.args.roots.now in
-    let old = c.args.self.now in
-    active-room T old (kept.Plan c.args.root c.args.parts c.args.valued) c.args.root.0 c.requires c.placed-old.result (plan-lives T old c.args.root c.args.parts c.args.valued c.requires) c.placed-old.ensures
+    active-room c.args.roots.now c.args.self.now (kept.Plan c.args.root c.args.parts c.args.valued) c.args.root.0 c.requires c.placed-old.result c.requires.next.sound.0.lives c.placed-old.ensures
 
 pub push_pastes-requires-clause-new_cells : goal.push_pastes-requires-clause-new_cells
 push_pastes-requires-clause-new_cells c =

@@ -6,13 +6,11 @@ use Rattle.sj_lower.proofs.steps.Steps.print.Goals as goal
 
 pub push_delivers-requires-clause-plan : goal.push_delivers-requires-clause-plan
 push_delivers-requires-clause-plan c =
-    let h = c.requires in
-    active-fits c.args.roots.now c.args.self.now (kept.Print c.args.root) c.args.root.0 h c.placed-placed.result c.info.result h.next.sound.0 c.placed-placed.ensures c.info.ensures
+    active-fits c.args.roots.now c.args.self.now (kept.Print c.args.root) c.args.root.0 c.requires c.placed-placed.result c.info.result c.requires.next.sound.0 c.placed-placed.ensures c.info.ensures
 
 pub push_delivers-requires-clause-cells : goal.push_delivers-requires-clause-cells
 push_delivers-requires-clause-cells c =
-    let h = c.requires in
-    active-room c.args.roots.now c.args.self.now (kept.Print c.args.root) c.args.root.0 h c.placed-placed.result h.next.sound.0 c.placed-placed.ensures
+    active-room c.args.roots.now c.args.self.now (kept.Print c.args.root) c.args.root.0 c.requires c.placed-placed.result c.requires.next.sound.0 c.placed-placed.ensures
 
 pub returns-then-is_some-clause-adds : goal.returns-then-is_some-clause-adds
 returns-then-is_some-clause-adds c =
