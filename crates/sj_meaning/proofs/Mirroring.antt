@@ -72,7 +72,7 @@ mirror-change : (names : List (List ℕ)) → AreDistinct names → (f : RootSta
 mirror-change names d f keeps n S rs m h =
     let here = m.live n h.root h.below h.is in
     let long = length-set rs n (f (root_at rs n)) in
-    mirror-put names d n S (change f (name_at names n) S) (Some (f h.root)) rs (change_at f n rs) m h.below (λ q. root-change f (name_at names n) S h.root q h.is)
+    mirror-put names d n S _ (Some (f h.root)) rs _ m h.below (λ q. root-change f (name_at names n) S h.root q h.is)
     (λ k other. get_or-set_other rs n k (f (root_at rs n)) no_root other) (omega (arith, long)) (
       ap f (sym (root-there names S rs n m h)) ∙ sym (get_or-set_same rs n (f (root_at rs n)) no_root here),
       λ r e. (omega (arith, long, here), subst (λ (d : Dims). 0 < area d) (sym (keeps h.root) ∙ ap (λ (x : RootState). x.dims) (same_Some (f h.root) r e)) (m.some n h.root h.below h.is)),
@@ -80,7 +80,7 @@ mirror-change names d f keeps n S rs m h =
 
 mirror-register : (names : List (List ℕ)) → AreDistinct names → (r : Registration ℕ) (S : JobState) (rs : List RootState) → IsMirror names S rs → r.name ≡ length rs → r.name < length names → 0 < area r.dims → IsMirror names (register (registration_named_by (name_at names) r) S) (rs ++ registered_root r ∷ [])
 mirror-register names d r S rs m e lt more =
-    mirror-put names d r.name S (register (registration_named_by (name_at names) r) S) (Some (registered_root r)) rs us m lt (get-put S.roots (name_at names r.name) (registered_root r)) elsewhere (omega (arith, longer)) (
+    mirror-put names d r.name S _ (Some (registered_root r)) rs _ m lt (get-put S.roots (name_at names r.name) (registered_root r)) elsewhere (omega (arith, longer)) (
       sym (get_or-append_seam rs (registered_root r) [] no_root) ∙ ap (root_at us) (sym e),
       λ s h. (omega (arith, longer, e), subst (λ (x : RootState). 0 < area x.dims) (same_Some (registered_root r) s h) more),
     )
@@ -99,7 +99,7 @@ mirror-register names d r S rs m e lt more =
 
 mirror-end : (names : List (List ℕ)) → AreDistinct names → (n : ℕ) (S : JobState) (rs : List RootState) → IsMirror names S rs → IsThere names S n → IsMirror names (unregister (name_at names n) S) (set rs n no_root)
 mirror-end names d n S rs m h =
-    mirror-put names d n S (unregister (name_at names n) S) None rs (set rs n no_root) m h.below (get-gone S.roots (name_at names n)) (λ k other. get_or-set_other rs n k no_root no_root other) (omega (arith, length-set rs n no_root))
+    mirror-put names d n S _ None rs _ m h.below (get-gone S.roots (name_at names n)) (λ k other. get_or-set_other rs n k no_root no_root other) (omega (arith, length-set rs n no_root))
     (sym (get_or-set_same rs n no_root no_root (m.live n h.root h.below h.is)), λ r e. absurd (none-some r e))
 
 -- ---- tasks

@@ -1,5 +1,5 @@
 -- What is kept of a job, by number: its acts come in time, and with names in place of numbers they are the job's.
-use Rattle.std.proofs.Common.{◌≡◌, ℕ, zero, suc, ◌+◌, ◌*◌, ◌<◌, ◌≤◌, Bool, true, false, not, ◌&&◌, List, [], ◌∷◌, length, map, get_or, Option, Some, None, cond, refl, ap, sym, subst, ◌∙◌, arith, bytes_eq, length-append}
+use Rattle.std.proofs.Common.{◌≡◌, ℕ, ◌*◌, ◌<◌, ◌≤◌, Bool, true, false, List, [], ◌∷◌, length, map, get_or, Option, Some, None, refl, ap, sym, subst, ◌∙◌, arith, bytes_eq, length-append}
 use Rattle.std.proofs.lemmas.List.{length-set}
 use Rattle.std.proofs.lemmas.List.Elements.{recursion_from_All}
 use Rattle.std.proofs.lemmas.List.Folds.{list_all-map}
@@ -13,14 +13,14 @@ use Rattle.sj_meaning.specs.declared.job.Operand.{Operand as Access}
 use Rattle.sj_meaning.specs.declared.job.Act.{Act as KeptAct}
 use Rattle.sj_meaning.specs.declared.job.Act.TheVariants as kept
 use Rattle.sj_meaning.specs.declared.job.Statement.{Statement as Kept}
-use Rattle.sj_meaning.specs.Statement.{Operand, TaskLine}
-use Rattle.sj_meaning.specs.Act.{Act, Task, Statement}
+use Rattle.sj_meaning.specs.Statement.{Operand}
+use Rattle.sj_meaning.specs.Act.{Act, Task}
 use Rattle.sj_meaning.specs.State.{RootState, JobState, root_of}
 use Rattle.sj_meaning.specs.Table.{Table, AreDistinct, a_root, info_of}
-use Rattle.sj_meaning.specs.Meaning.{registered_root, with_parts, with_reduction, with_elements, no_values, with_child, written_of, apply}
+use Rattle.sj_meaning.specs.Meaning.{with_child, written_of, apply}
 use Rattle.sj_meaning.specs.Sound.{IsSoundAct, AreSoundActs, has_child}
 use Rattle.sj_meaning.specs.View.{operand_seen, task_seen, act_seen, statement_seen, seen_from, count_after, count_from, IsPlaced, ActsArePlaced}
-use Rattle.sj_meaning.specs.Numbers.{registration_at, no_root, operand_array_at, name_at, number_of_name, operand_at, operand_named_by, task_at, act_at, act_named_by, statement_named_by, statements_from, root_at, change_at, put_all_at, apply_at}
+use Rattle.sj_meaning.specs.Numbers.{operand_array_at, name_at, number_of_name, operand_at, operand_named_by, task_at, act_at, act_named_by, statement_named_by, statements_from, root_at, change_at, put_all_at, apply_at}
 use Rattle.sj_meaning.proofs.Finding.{text-itself}
 use Rattle.sj_meaning.proofs.Mirroring.{apart, IsThere, IsMirror, IsTimely, AreTimely, mirror-apply}
 use Rattle.sj_meaning.proofs.Views.{counts-grow}
@@ -55,27 +55,24 @@ length-apply T k a rs e = grind (arith, length-set, length-append)
 
 -- ---- sound acts come in time
 
-there-by : (names : List (List ℕ)) (S : JobState) (n : ℕ) → n < length names → (f : RootState → Bool) → (elim (root_of S (name_at names n)) as (λ _. Bool) [ None ↦ false | Some r ↦ f r ]) ≡ true → IsThere names S n
-there-by names S n lt f = by_root (root_of S (name_at names n)) refl
-  where
-    by_root : (o : Option RootState) → root_of S (name_at names n) ≡ o → (elim o as (λ _. Bool) [ None ↦ false | Some r ↦ f r ]) ≡ true → IsThere names S n
-    by_root None e h = absurd (cc)
-    by_root (Some r) e h = record { below = lt; root = r; is = e }
+there-by : (names : List (List ℕ)) (S : JobState) (n : ℕ) → n < length names → (f : RootState → Bool) (o : Option RootState) → root_of S (name_at names n) ≡ o → (elim o as (λ _. Bool) [ None ↦ false | Some r ↦ f r ]) ≡ true → IsThere names S n
+there-by names S n lt f None e h = absurd (cc)
+there-by names S n lt f (Some r) e h = record { below = lt; root = r; is = e }
 
 positive : (a b c d : ℕ) → 0 < a → a ≤ b → 0 < c → c ≤ d → 0 < b * d
 positive a b c d h k i j = grind arith
 
 timely-act : (has : Kernel → Bool) (T : Table) (k : ℕ) (S : JobState) (rs : List RootState) (a : KeptAct) → length rs ≡ k → count_after k a ≤ length T.names → IsPlaced k a → IsSoundAct has S (act_seen T k a) → IsTimely T.names S rs (act_at T k a)
 timely-act has T k S rs (kept.Register init) e le p s = (sym e, omega (arith, le), positive (info_of T (a_root k)).parts.r (info_of T (a_root k)).dims.rows (info_of T (a_root k)).parts.c (info_of T (a_root k)).dims.cols s.parts.some_rows s.parts.rows s.parts.some_cols s.parts.cols)
-timely-act has T k S rs (kept.Plan r p valued) e le placed s = there-by T.names S r.0 (omega (arith, le, placed)) _ s.rooted
-timely-act has T k S rs (kept.Redux r by) e le placed s = there-by T.names S r.0 (omega (arith, le, placed)) _ s.1
+timely-act has T k S rs (kept.Plan r p valued) e le placed s = there-by T.names S r.0 (omega (arith, le, placed)) _ _ refl s.rooted
+timely-act has T k S rs (kept.Redux r by) e le placed s = there-by T.names S r.0 (omega (arith, le, placed)) _ _ refl s.1
 timely-act has T k S rs (kept.Task t) e le placed s =
     let tests = AllPass-from_list_all (λ o. has_child S (operand_seen T o)) t.operands (sym (list_all-map (has_child S) (operand_seen T) t.operands) ∙ s.placed) in
     each-map (λ (o : Operand ℕ). IsThere T.names S o.name) operand_at t.operands
-    (recursion_from_All (λ (o : Access). IsThere T.names S o.root.0) t.operands (λ i d lt. there-by T.names S (get_or t.operands i d).root.0 (omega (arith, le, placed i d lt)) _ (tests i d lt)))
-timely-act has T k S rs (kept.Print r) e le placed s = there-by T.names S r.0 (omega (arith, le, placed)) _ s
-timely-act has T k S rs (kept.Invalidate r) e le placed s = there-by T.names S r.0 (omega (arith, le, placed)) _ s
-timely-act has T k S rs (kept.Unregister r) e le placed s = there-by T.names S r.0 (omega (arith, le, placed)) _ s
+    (recursion_from_All (λ (o : Access). IsThere T.names S o.root.0) t.operands (λ i d lt. there-by T.names S (get_or t.operands i d).root.0 (omega (arith, le, placed i d lt)) _ _ refl (tests i d lt)))
+timely-act has T k S rs (kept.Print r) e le placed s = there-by T.names S r.0 (omega (arith, le, placed)) _ _ refl s
+timely-act has T k S rs (kept.Invalidate r) e le placed s = there-by T.names S r.0 (omega (arith, le, placed)) _ _ refl s
+timely-act has T k S rs (kept.Unregister r) e le placed s = there-by T.names S r.0 (omega (arith, le, placed)) _ _ refl s
 
 -- the acts of a numbered job come in time
 pub timely : (has : Kernel → Bool) (T : Table) (k : ℕ) (S : JobState) (rs : List RootState) (ss : List Kept) → AreDistinct T.names → length rs ≡ k → count_from k ss ≤ length T.names → ActsArePlaced k ss → IsMirror T.names S rs → AreSoundActs has S (seen_from T k ss) → AreTimely T.names S rs (statements_from T k ss)
