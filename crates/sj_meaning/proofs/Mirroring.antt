@@ -1,9 +1,8 @@
 -- The roots by number are those of the names, statement after statement.
-use Rattle.std.proofs.Common.{◌≡◌, ℕ, ◌+◌, ◌<◌, ◌≤◌, Bool, true, false, List, [], ◌∷◌, ◌++◌, length, map, Option, Some, None, unwrap_or, cond, refl, ap, sym, subst, ◌∙◌, arith, bytes_eq, inl, inr, length-append, get_or-set_same, get_or-set_other}
+use Rattle.std.proofs.Common.{◌≡◌, ℕ, ◌<◌, ◌≤◌, Bool, true, false, List, [], ◌∷◌, ◌++◌, length, map, Option, Some, None, unwrap_or, cond, refl, ap, sym, subst, ◌∙◌, arith, bytes_eq, inl, inr, length-append, get_or-set_same, get_or-set_other}
 use Rattle.std.proofs.Math.ListN.{set}
-use Rattle.std.proofs.Math.Seq.{get_or-append_seam}
 use Rattle.std.proofs.lemmas.Bool.{cases_lt}
-use Rattle.std.proofs.lemmas.List.{length-set, get_or_append_left, get_or_past, map-append}
+use Rattle.std.proofs.lemmas.List.{length-set, get_or_append_left, get_or_past, get_or_push, map-append}
 use Rattle.std.proofs.lemmas.Option.{none-some, same_Some}
 use Rattle.std.specs.List.{AllByRecursion}
 use Rattle.sj_base.proofs.Bools.{same_test}
@@ -78,24 +77,19 @@ mirror-change names d f keeps n S rs m h =
       λ r e. (omega (arith, long, here), subst (λ (d : Dims). 0 < area d) (sym (keeps h.root) ∙ ap (λ (x : RootState). x.dims) (same_Some (f h.root) r e)) (m.some n h.root h.below h.is)),
     )
 
+beside-push : (rs : List RootState) (x : RootState) (k : ℕ) → (k ≡ length rs → ⊥) → root_at (rs ++ x ∷ []) k ≡ root_at rs k
+beside-push rs x k other = elim (cases_lt k (length rs)) as (λ _. root_at (rs ++ x ∷ []) k ≡ root_at rs k) [
+  | inl lk ↦ get_or_append_left rs (x ∷ []) no_root k lk
+  | inr le ↦ get_or_past (rs ++ x ∷ []) k no_root (omega (arith, length-append rs (x ∷ []), le, other)) ∙ sym (get_or_past rs k no_root le)
+]
+
 mirror-register : (names : List (List ℕ)) → AreDistinct names → (r : Registration ℕ) (S : JobState) (rs : List RootState) → IsMirror names S rs → r.name ≡ length rs → r.name < length names → 0 < area r.dims → IsMirror names (register (registration_named_by (name_at names) r) S) (rs ++ registered_root r ∷ [])
 mirror-register names d r S rs m e lt more =
-    mirror-put names d r.name S _ (Some (registered_root r)) rs _ m lt (get-put S.roots (name_at names r.name) (registered_root r)) elsewhere (omega (arith, longer)) (
-      sym (get_or-append_seam rs (registered_root r) [] no_root) ∙ ap (root_at us) (sym e),
+    let longer = length-append rs (registered_root r ∷ []) in
+    mirror-put names d r.name S _ (Some (registered_root r)) rs _ m lt (get-put S.roots (name_at names r.name) (registered_root r)) (λ k other. beside-push rs (registered_root r) k (λ i. other (i ∙ sym e))) (omega (arith, longer)) (
+      sym (get_or_push rs (registered_root r) no_root r.name (sym e)),
       λ s h. (omega (arith, longer, e), subst (λ (x : RootState). 0 < area x.dims) (same_Some (registered_root r) s h) more),
     )
-  where
-    us : List RootState
-    us = rs ++ registered_root r ∷ []
-
-    longer : length us ≡ length rs + 1
-    longer = length-append rs (registered_root r ∷ [])
-
-    elsewhere : (k : ℕ) → (k ≡ r.name → ⊥) → root_at us k ≡ root_at rs k
-    elsewhere k other = elim (cases_lt k (length rs)) as (λ _. root_at us k ≡ root_at rs k) [
-      | inl lk ↦ get_or_append_left rs (registered_root r ∷ []) no_root k lk
-      | inr le ↦ get_or_past us k no_root (omega (arith, longer, le, other, e)) ∙ sym (get_or_past rs k no_root le)
-    ]
 
 mirror-end : (names : List (List ℕ)) → AreDistinct names → (n : ℕ) (S : JobState) (rs : List RootState) → IsMirror names S rs → IsThere names S n → IsMirror names (unregister (name_at names n) S) (set rs n no_root)
 mirror-end names d n S rs m h =
@@ -104,12 +98,9 @@ mirror-end names d n S rs m h =
 
 -- ---- tasks
 
-there-changed : (names : List (List ℕ)) (f : RootState → RootState) (n : ℕ) (S : JobState) → IsThere names S n → (k : ℕ) → IsThere names S k → IsThere names (change f (name_at names n) S) k
-there-changed names f n S h k g = by_test (bytes_eq (name_at names n) (name_at names k)) (root-change f (name_at names n) S h.root (name_at names k) h.is)
-  where
-    by_test : (b : Bool) → root_of (change f (name_at names n) S) (name_at names k) ≡ cond b (Some (f h.root)) (root_of S (name_at names k)) → IsThere names (change f (name_at names n) S) k
-    by_test true e = record { below = g.below; root = f h.root; is = e }
-    by_test false e = record { below = g.below; root = g.root; is = e ∙ g.is }
+there-changed : (names : List (List ℕ)) (S T : JobState) (k : ℕ) (r : RootState) → IsThere names S k → (b : Bool) → root_of T (name_at names k) ≡ cond b (Some r) (root_of S (name_at names k)) → IsThere names T k
+there-changed names S T k r h true e = record { below = h.below; root = r; is = e }
+there-changed names S T k r h false e = record { below = h.below; root = h.root; is = e ∙ h.is }
 
 abbrev AllThere : List (List ℕ) → JobState → List (Operand ℕ) → Type 0
 AllThere names S os = AllByRecursion (λ (o : Operand ℕ). IsThere names S o.name) os
@@ -118,7 +109,7 @@ mirror-put_all : (names : List (List ℕ)) → AreDistinct names → (os : List 
 mirror-put_all names d (o ∷ os) (x ∷ xs) S rs m a =
     let T = change (with_child o.place x) (name_at names o.name) S in
     mirror-put_all names d os xs T (change_at (with_child o.place x) o.name rs) (mirror-change names d (with_child o.place x) (λ r. refl) o.name S rs m a.0)
-    (each-weaker (λ (p : Operand ℕ). IsThere names S p.name) (λ (p : Operand ℕ). IsThere names T p.name) (λ p. there-changed names (with_child o.place x) o.name S a.0 p.name) os a.1)
+    (each-weaker (λ (p : Operand ℕ). IsThere names S p.name) (λ (p : Operand ℕ). IsThere names T p.name) (λ p h. there-changed names S T p.name (with_child o.place x a.0.root) h _ (root-change (with_child o.place x) (name_at names o.name) S a.0.root (name_at names p.name) a.0.is)) os a.1)
 mirror-put_all names d os arrays S rs m a = m
 
 pub written-by : {M N : Type 0} (f : M → N) (os : List (Operand M)) → written_of (map (operand_named_by f) os) ≡ map (operand_named_by f) (written_of os)

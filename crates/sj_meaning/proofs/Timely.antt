@@ -1,5 +1,6 @@
 -- What is kept of a job, by number: its acts come in time, and with names in place of numbers they are the job's.
-use Rattle.std.proofs.Common.{◌≡◌, ℕ, ◌*◌, ◌<◌, ◌≤◌, Bool, true, false, List, [], ◌∷◌, length, map, get_or, Option, Some, None, refl, ap, sym, subst, ◌∙◌, arith, bytes_eq, length-append}
+use Rattle.std.proofs.Common.{◌≡◌, ℕ, ◌<◌, ◌≤◌, Bool, true, false, List, [], ◌∷◌, length, map, get_or, Option, Some, None, refl, ap, sym, subst, ◌∙◌, arith, bytes_eq, length-append}
+use Rattle.std.proofs.Math.Nat.{mul-pos}
 use Rattle.std.proofs.lemmas.List.{length-set}
 use Rattle.std.proofs.lemmas.List.Elements.{recursion_from_All}
 use Rattle.std.proofs.lemmas.List.Folds.{list_all-map}
@@ -16,7 +17,7 @@ use Rattle.sj_meaning.specs.declared.job.Statement.{Statement as Kept}
 use Rattle.sj_meaning.specs.Statement.{Operand}
 use Rattle.sj_meaning.specs.Act.{Act, Task}
 use Rattle.sj_meaning.specs.State.{RootState, JobState, root_of}
-use Rattle.sj_meaning.specs.Table.{Table, AreDistinct, a_root, info_of}
+use Rattle.sj_meaning.specs.Table.{Table, AreDistinct}
 use Rattle.sj_meaning.specs.Meaning.{with_child, written_of, apply}
 use Rattle.sj_meaning.specs.Sound.{IsSoundAct, AreSoundActs, has_child}
 use Rattle.sj_meaning.specs.View.{operand_seen, task_seen, act_seen, statement_seen, seen_from, count_after, count_from, IsPlaced, ActsArePlaced}
@@ -59,11 +60,8 @@ there-by : (names : List (List ℕ)) (S : JobState) (n : ℕ) → n < length nam
 there-by names S n lt f None e h = absurd (cc)
 there-by names S n lt f (Some r) e h = record { below = lt; root = r; is = e }
 
-positive : (a b c d : ℕ) → 0 < a → a ≤ b → 0 < c → c ≤ d → 0 < b * d
-positive a b c d h k i j = grind arith
-
 timely-act : (has : Kernel → Bool) (T : Table) (k : ℕ) (S : JobState) (rs : List RootState) (a : KeptAct) → length rs ≡ k → count_after k a ≤ length T.names → IsPlaced k a → IsSoundAct has S (act_seen T k a) → IsTimely T.names S rs (act_at T k a)
-timely-act has T k S rs (kept.Register init) e le p s = (sym e, omega (arith, le), positive (info_of T (a_root k)).parts.r (info_of T (a_root k)).dims.rows (info_of T (a_root k)).parts.c (info_of T (a_root k)).dims.cols s.parts.some_rows s.parts.rows s.parts.some_cols s.parts.cols)
+timely-act has T k S rs (kept.Register init) e le p s = (sym e, omega (arith, le), mul-pos (omega (arith, s.parts.some_rows, s.parts.rows)) (omega (arith, s.parts.some_cols, s.parts.cols)))
 timely-act has T k S rs (kept.Plan r p valued) e le placed s = there-by T.names S r.0 (omega (arith, le, placed)) _ _ refl s.rooted
 timely-act has T k S rs (kept.Redux r by) e le placed s = there-by T.names S r.0 (omega (arith, le, placed)) _ _ refl s.1
 timely-act has T k S rs (kept.Task t) e le placed s =
