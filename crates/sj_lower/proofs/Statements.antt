@@ -147,6 +147,16 @@ module _ (T : Table) (old : Steps) (root : RootNumber) (p : Parts) (v : Bool) (h
       let lays = plans h.roots h.cells h.at.layout plan-lives h.next.whole.counted (handle-dims ∙ ap (λ (j : RootInfo). j.dims) (sym info)) in
       subst (λ (s : Parts). placed.first + children_count s ≤ most) (sym (IfSome-at (λ (y : Placed). y.parts ≡ p) o placed found parts)) (plan-room l placed lays.0 lays.1)
 
+-- cells are too many with that plan
+abbrev HasNoRoomFor : Layout → RootNumber → Dims → Parts → Type 0
+HasNoRoomFor l root d p = (rs : List RootState) (C : Laid) → Follows l rs C → (handle_at C root.0).dims ≡ d → most < length (take root.0 p C).rows
+
+pub plan-full : (T : Table) (old : Steps) (root : RootNumber) (p : Parts) (v : Bool) (line : Line) (i : RootInfo) (o : Option Placed) → i ≡ info_of T root → o ≡ None → IfNone o (HasNoRoomFor old.layout root i.dims p) → IsFull T old (kept.Plan root p v) line TooManyCells
+plan-full T old root p v line i o info none full = λ rs C E at next.
+    let lives = next.sound.0.lives in
+    let above : HasNoRoomFor old.layout root i.dims p = subst (λ (x : Option Placed). IfNone x (HasNoRoomFor old.layout root i.dims p)) none full in
+    above rs C at.layout ((next.whole.taken root.0 lives).1.dims ∙ sym (next.dims root.0 lives) ∙ ap (λ (j : RootInfo). j.dims) (sym info))
+
 module _ (T : Table) (old new : Steps) (root : RootNumber) (p : Parts) (v : Bool) (line : Line) (placed : Placed) (parts : placed.parts ≡ p) (laid : Plans old.layout new.layout root (info_of T root).dims p placed) (prints : new.prints ≡ old.prints) where
   module _ (rs : List RootState) (C : Laid) (E : Expansion) (at : StepsAt old rs C E) (next : MayComeNext T old.phases.workers (kept.Plan root p v) rs C E) where
     abbrev was : Placed

@@ -6,6 +6,11 @@ use Rattle.sj_lower.proofs.Tasking.{actives-kept, all-can, all-inside, still-has
 use Rattle.sj_meaning.specs.declared.job.Act.TheVariants as kept
 use Rattle.sj_lower.proofs.steps.Steps.task.Goals as goal
 
+pub open_operands-requires-clause-at : goal.open_operands-requires-clause-at
+open_operands-requires-clause-at c =
+    let h = c.requires.1 in
+    has-after c.args.self.now.phases c.close_operands.new.phases c.args.line _ c.in_ok-close_operands.ensures (record { expansion = h.expansion; at = h.at.phases })
+
 pub close_operands-requires-clause-inside : goal.close_operands-requires-clause-inside
 close_operands-requires-clause-inside c =
     let x = c.args.self.now in
