@@ -4,7 +4,8 @@ use Rattle.sj_meaning.specs.declared.job.Operand.{Operand}
 use Rattle.std.proofs.Math.Seq.{get_or-append_seam}
 use Rattle.std.proofs.lemmas.{Bool.cases_eq, List.get_or_append_left, List.get_or_default, List.length-set, List.set-append_left, Simd.map-map}
 use Rattle.sj_base.proofs.Options.{IfSome-at}
-use Rattle.sj_lower.proofs.{Copying.by_copies, Copying.copied-length, Copying.first-new, Copying.first-old, Keeping.changed-beside, Keeping.changed-here, Keeping.lives-below, Places.parts-itself, Starting.pushed-beside, Starting.pushed-there, Taken.by_first, Taken.longer, Taken.none_isn't, Taken.root-there, Taken.some_is, Taken.take-handles, Taken.take-keeps, Taken.took-first, Taken.took-there}
+use Rattle.sj_meaning.proofs.Mirroring.{pushed-beside}
+use Rattle.sj_lower.proofs.{Copying.by_copies, Copying.copied-length, Copying.first-new, Copying.first-old, Keeping.changed-beside, Keeping.changed-here, Keeping.lives-below, Places.parts-itself, Starting.pushed-there, Taken.by_first, Taken.longer, Taken.none_isn't, Taken.root-there, Taken.some_is, Taken.take-handles, Taken.take-keeps, Taken.took-first, Taken.took-there}
 
 -- ---- what the code's calls say
 

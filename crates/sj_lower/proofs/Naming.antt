@@ -1,8 +1,8 @@
 -- From a job that is kept to its statements by number: they are sound, and the table knows what they print.
 use Rattle.sj_lower.proofs.Words.{[], a_root, Act, act_named_by, ap, apply, apply_at, area, AreDistinct, AreSoundAt, AreSoundByName, arith, Array, Bool, by_number, change_at, Dims, each_of, info_of, inl, inr, Invalidates, IsSoundAt, JobState, Kernel, Laid, length, List, Lives, name_at, nat_cmp, no_root, no_values, open_at, OpenReductions, Operand, operand_array_at, Option, out, plain_rows, Plans, printed_at, Prints, prints_at, Program, put_all_at, Reduces, refl, registered_root, Registers, root_at, RootState, slice_cmp, slice_get, Some, start, Statement, statement_named_by, step_of, subst, suc, sym, Table, Tasks, Unregisters, unwrap_or, with_child, with_elements, with_parts, with_reduction, written_of, zero, ℕ, ◌++◌, ◌+◌, ◌<◌, ◌∙◌, ◌∷◌, ◌≡◌}
 use Rattle.std.proofs.lemmas.{Bool.cases_eq, Option.none-some, Option.slice_get_within}
-use Rattle.sj_meaning.proofs.Mirroring.{AreTimely, IsMirror, mirror-apply}
-use Rattle.sj_lower.proofs.{Arms.by_changed, Contents.contents_before, Following.AllAgree, Keeping.HaveRoots, Printing.IsKnown, Sounding.IsSilent, Sounding.sound-at, Starting.pushed-beside, Starting.pushed-there}
+use Rattle.sj_meaning.proofs.Mirroring.{AreTimely, IsMirror, mirror-apply, pushed-beside}
+use Rattle.sj_lower.proofs.{Arms.by_changed, Contents.contents_before, Following.AllAgree, Keeping.HaveRoots, Printing.IsKnown, Sounding.IsSilent, Sounding.sound-at, Starting.pushed-there}
 use Rattle.std.specs.FinMap as map
 
 -- before the first statement

@@ -4,7 +4,9 @@ use Rattle.std.proofs.lemmas.{Bool.cases_Bool, Bool.cases_eq, Bool.cond_both, Bo
 use Rattle.sj_base.proofs.{Lists.each-weaker, SameIds.cell_of_number}
 use Rattle.sj_core.proofs.Readiness.{Contains-map}
 use Rattle.sj_phases.proofs.{Expanded.shuts, Logging.by_which, Logging.phase-other, Logging.phase-own}
-use Rattle.sj_lower.proofs.{Agrees.Agrees, Agrees.AreOpenChildren, Agrees.IsOpenAt, Agrees.IsOpenChild, Contributing.each-kept, Contributing.fold-handles, Contributing.same-cells, Doing.kernel_there, Doing.new_dims, Doing.the_cell, Elements.written-other, Elements.written-valued, Following.IsAt, Following.OpensStep, Keeping.changed-beside, Keeping.changed-here, Keeping.lives-below, Operands.Contributes, Operands.contributes-there, Operands.none-filter, Operands.one-opens, Operands.opening_by, Orderly.shut-less, Places.length-places, Places.number-below, Places.parts-are, Places.place-is, Places.place-itself, Places.places-at, Starting.pushed-beside, Taken.cell-is, Taken.keeps-root, Taken.none_isn't, Taken.root-there, Taken.some_is, Taken.take-keeps, Taken.take-takes, Writing.all_dims}
+use Rattle.sj_plan.proofs.Lists.{each-kept}
+use Rattle.sj_meaning.proofs.Mirroring.{pushed-beside}
+use Rattle.sj_lower.proofs.{Agrees.Agrees, Agrees.AreOpenChildren, Agrees.IsOpenAt, Agrees.IsOpenChild, Contributing.fold-handles, Contributing.same-cells, Doing.kernel_there, Doing.new_dims, Doing.the_cell, Elements.written-other, Elements.written-valued, Following.IsAt, Following.OpensStep, Keeping.changed-beside, Keeping.changed-here, Keeping.lives-below, Operands.Contributes, Operands.contributes-there, Operands.none-filter, Operands.one-opens, Operands.opening_by, Orderly.shut-less, Places.length-places, Places.number-below, Places.parts-are, Places.place-is, Places.place-itself, Places.places-at, Taken.cell-is, Taken.keeps-root, Taken.none_isn't, Taken.root-there, Taken.some_is, Taken.take-keeps, Taken.take-takes, Writing.all_dims}
 
 -- ---- places and cells
 

@@ -2,7 +2,7 @@
 use Rattle.sj_lower.proofs.Words.{[], access_of, Act, act_named_by, active_cells, AllByRecursion, ap, apply, apply_at, AreDistinct, Bool, by_name, by_number, cell_of, closing, contributed, filter, flat_map, fold, Invalidates, is_other_access, is_redux, JobState, Laid, Line, List, Lookup, LoweringStep, map, name_at, opening_for, Operand, operand_cell, operand_named_by, PhaseOpening, places, plan_block, Plans, print_block, Prints, refl, RootState, Statement, statement_named_by, step, step_of, steps_from, sym, take, task_block, task_named_by, Tasks, Unregisters, with_copies, with_print, ℕ, ◌++◌, ◌∙◌, ◌∷◌, ◌≡◌}
 use Rattle.std.proofs.lemmas.{List.Folds.flat_map-map, Simd.map-map}
 use Rattle.sj_base.proofs.Lists.{each-weaker}
-use Rattle.sj_plan.proofs.Lists.{each-filter, map-filter}
+use Rattle.sj_plan.proofs.Lists.{each-kept, map-filter}
 use Rattle.sj_meaning.proofs.{Mirroring.AreTimely, Mirroring.IsMirror, Mirroring.IsThere, Mirroring.IsTimely, Mirroring.mirror-apply, Timely.number-named}
 
 -- ---- lists
@@ -14,10 +14,6 @@ map-same f g (x ∷ xs) h = λ i. h.0 i ∷ map-same f g xs h.1 i
 flat-same : {X Y : Type 0} (f g : X → List Y) (xs : List X) → AllByRecursion (λ x. f x ≡ g x) xs → flat_map f xs ≡ flat_map g xs
 flat-same f g [] h = refl
 flat-same f g (x ∷ xs) h = λ i. h.0 i ++ flat-same f g xs h.1 i
-
--- of those that pass
-passing : {X : Type 0} (P : X → Type 0) (p : X → Bool) (xs : List X) → AllByRecursion P xs → AllByRecursion P (filter p xs)
-passing P p xs h = each-filter P p xs (each-weaker P _ (λ x q e. q) xs h)
 
 -- ---- one statement
 
@@ -45,7 +41,7 @@ module _ (names : List (List ℕ)) (d : AreDistinct names) (S : JobState) (rs : 
   cells-same : (D : Laid) (p : Operand (List ℕ) → Bool) (os : List (Operand ℕ)) → AllByRecursion (λ o. IsThere names S o.name) os → map (operand_cell L D) (filter p (map named os)) ≡ map (operand_cell M D) (filter (λ o. p (named o)) os)
   cells-same D p os h =
       let os' : List (Operand ℕ) = filter (λ o. p (named o)) os in
-      ap (map (operand_cell L D)) (sym (map-filter named p os)) ∙ map-map (operand_cell L D) named os' ∙ map-same (λ o. operand_cell L D (named o)) (operand_cell M D) os' (each-weaker _ _ (cell-same D) os' (passing _ (λ o. p (named o)) os h))
+      ap (map (operand_cell L D)) (sym (map-filter named p os)) ∙ map-map (operand_cell L D) named os' ∙ map-same (λ o. operand_cell L D (named o)) (operand_cell M D) os' (each-weaker _ _ (cell-same D) os' (each-kept _ (λ o. p (named o)) os h))
 
   step-same : (workers : ℕ) (C : Laid) (line : Line) (a : Act ℕ) → IsTimely names S rs a → step_of workers L C line (act_named_by (name_at names) a) ≡ step_of workers M C line a
   step-same workers C line (Plans n p) h = λ i. let D = take (number-named names n d h.below i) p C in step D (plan_block (m.same n h.below i) (active-same C n h i) D (number-named names n d h.below i) p line)
@@ -56,7 +52,7 @@ module _ (names : List (List ℕ)) (d : AreDistinct names) (S : JobState) (rs : 
       rest : (D : Laid) → step D (task_block L D (task_named_by (name_at names) t) line) ≡ step D (task_block M D t line)
       rest D =
           let opens = ap (flat_map (opening_for L D)) (sym (map-filter named (λ (o : Operand (List ℕ)). is_redux o.mode) t.operands)) ∙ flat_map-map (opening_for L D) named (contributed t)
-          ∙ flat-same (λ o. opening_for L D (named o)) (opening_for M D) (contributed t) (each-weaker _ _ (opening-same D) (contributed t) (passing _ (λ o. is_redux o.mode) t.operands h)) in
+          ∙ flat-same (λ o. opening_for L D (named o)) (opening_for M D) (contributed t) (each-weaker _ _ (opening-same D) (contributed t) (each-kept _ (λ o. is_redux o.mode) t.operands h)) in
           let accesses = map-map (access_of L D) named t.operands ∙ map-same (λ o. access_of L D (named o)) (access_of M D) t.operands (each-weaker _ _ (λ o k. λ j. record { mode = o.mode; cell = cell-same D o k j }) t.operands h) in
           λ i. step D (record { line = line; closes = cells-same D is_other_access t.operands h i; opens = opens i; tasks = record { codelet = t.codelet; args = t.args; accesses = accesses i; line = line; priority = t.priority } ∷ []; deliveries = [] })
   step-same workers C line (Prints n) h = λ i. step (with_print C) (print_block (number-named names n d h.below i) (m.same n h.below i) (active-same C n h i) C.prints line)

@@ -1,7 +1,7 @@
 -- A registration and a plan line leave in the cells of a root's children what the children hold, by the roots' numbers.
-use Rattle.sj_lower.proofs.Words.{[], ap, area, AreLaid, arith, Array, array, Cell, cell_of, child, child_array, cond, Contents, Dims, each_of, false, Fill, fill_arguments, fill_row, first_elements, Fits, gives_value, handle_at, has_no_value, HasTakenPlan, HaveCopies, held_in, Init, InitFits, inl, inr, is_valued, is_valued_child, IsPlace, Kind, Laid, length, length-append, Line, List, Load, load_row, load_rows, LoadFill, loadfill, Lowered, no_root, None, Nothing, Parts, paste_row, pastes_of, places, pos, Program, refl, root_array, root_at, RootState, same_cell, same_parts, subst, sym, take, true, Values, window, with_parts, zeros, ℕ, ℤ, ◌++◌, ◌+◌, ◌<◌, ◌||◌, ◌∙◌, ◌∷◌, ◌≡◌, access, closing, direct, direct_mode, is_first, Mode, own_task, Paste, paste_arguments, PasteKernel, plain_rows, plan_block, R, RW, TaskBlock, W}
+use Rattle.sj_lower.proofs.Words.{[], ap, area, AreLaid, arith, Array, array, Cell, cell_of, child, child_array, cond, Contents, Dims, each_of, false, Fill, fill_arguments, fill_row, first_elements, Fits, gives_value, handle_at, has_no_value, HasTakenPlan, HaveCopies, held_in, Init, InitFits, is_valued, is_valued_child, IsPlace, Kind, Laid, length, Line, List, Load, load_row, load_rows, LoadFill, loadfill, Lowered, no_root, None, Nothing, Parts, paste_row, pastes_of, places, pos, Program, refl, root_array, root_at, RootState, same_cell, same_parts, subst, sym, take, true, Values, window, with_parts, zeros, ℕ, ℤ, ◌++◌, ◌+◌, ◌<◌, ◌||◌, ◌∙◌, ◌∷◌, ◌≡◌, access, closing, direct, direct_mode, is_first, Mode, own_task, Paste, paste_arguments, PasteKernel, plain_rows, plan_block, R, RW, TaskBlock, W}
 use Rattle.std.proofs.Math.Seq.{get_or-append_seam}
-use Rattle.std.proofs.lemmas.{Bool.cases_lt, Bool.cond_both, Bool.false≢true, List.get_or_append_left, List.get_or_past}
+use Rattle.std.proofs.lemmas.{Bool.cond_both, Bool.false≢true}
 use Rattle.sj_meaning.proofs.Children.{first_length}
 use Rattle.sj_lower.proofs.{Contents.contents_before, Copying.copies-take, Elements.blank-child, Elements.child-window, Elements.child-within, Elements.filled-window, Elements.no_values-blank, Elements.unwrapped, Elements.valued-child, Filling.after_fill, Filling.after_load, Filling.AreFilled, Filling.blocks-give, Filling.gives_own, Filling.HaveOwn, Filling.rows-filled, Filling.rows-give, Folding.after_row, Folding.after_rows, Folding.contents-rows, Folding.given-rows, Folding.one_gives, Folding.Stand, Keeping.cell-dims, Keeping.differs, Keeping.HasCells, Keeping.HasRoot, Keeping.HaveRoots, Keeping.held-kept, Keeping.holds-changed, Keeping.IsHeld, Keeping.root-kept, Pasting.pastes-filled, Pasting.pastes-give, Pasting.rows-by_child, Pasting.rows_to, Places.parts-are, Places.parts-itself, Taken.cells-apart, Taken.laid-take, Taken.take-handles, Taken.take-keeps, Taken.take-takes}
 use Rattle.std.proofs.lemmas.Simd.{map-map}
@@ -107,12 +107,6 @@ starts q C m kind Nothing d s line n f fits init cells laid t stand =
 -- the root of a number, after a root more
 pub pushed-there : (rs : List RootState) (x : RootState) (m : ℕ) → m ≡ length rs → root_at (rs ++ x ∷ []) m ≡ x
 pushed-there rs x m e = ap (λ i. root_at (rs ++ x ∷ []) i) e ∙ get_or-append_seam rs x [] no_root
-
-pub pushed-beside : (rs : List RootState) (x : RootState) (m : ℕ) → (m ≡ length rs → ⊥) → root_at (rs ++ x ∷ []) m ≡ root_at rs m
-pushed-beside rs x m other = elim (cases_lt m (length rs)) as (λ _. root_at (rs ++ x ∷ []) m ≡ root_at rs m) [
-  | inl lt ↦ get_or_append_left rs (x ∷ []) no_root m lt
-  | inr le ↦ get_or_past (rs ++ x ∷ []) m no_root (omega (arith, le, other, length-append rs (x ∷ []))) ∙ sym (get_or_past rs m no_root le)
-]
 
 -- ---- plans
 

@@ -4,7 +4,9 @@ use Rattle.std.proofs.Math.ListN.{set}
 use Rattle.std.proofs.lemmas.{List.length-replicate, List.length-set, Simd.map-map}
 use Rattle.sj_base.proofs.{Numbers.none_more}
 use Rattle.sj_meaning.proofs.Timely.{length-put}
-use Rattle.sj_lower.proofs.{Agrees.Agrees, Agrees.AreOpenChildren, Contents.contents_before, Contributing.each-kept, Contributing.fold-handles, Contributing.laid-contributed, Contributing.roots-copied, Contributing.roots-task, Copying.copies-as, Copying.copies-root, Doing.the_cell, Elements.blank-child, Elements.no_values-blank, Filling.after_delivers, Folding.Stand, Folding.after_rows, Folding.contents-rows, Keeping.changed-here, Keeping.changed-beside, Keeping.HasCells, Keeping.HasRoot, Keeping.HaveRoots, Keeping.holds-changed, Keeping.holds-later, Keeping.lives-below, Keeping.root-kept, Starting.Keeps, Starting.direct-each, Starting.keeps_taken, Starting.pushed-beside, Starting.pushed-there, Starting.starts, Starting.turns_by, Taken.keeps-root, Taken.laid-as, Taken.laid-root, Taken.root-there, Taken.take-keeps, Taken.taken-as}
+use Rattle.sj_plan.proofs.Lists.{each-kept}
+use Rattle.sj_meaning.proofs.Mirroring.{pushed-beside}
+use Rattle.sj_lower.proofs.{Agrees.Agrees, Agrees.AreOpenChildren, Contents.contents_before, Contributing.fold-handles, Contributing.laid-contributed, Contributing.roots-copied, Contributing.roots-task, Copying.copies-as, Copying.copies-root, Doing.the_cell, Elements.blank-child, Elements.no_values-blank, Filling.after_delivers, Folding.Stand, Folding.after_rows, Folding.contents-rows, Keeping.changed-here, Keeping.changed-beside, Keeping.HasCells, Keeping.HasRoot, Keeping.HaveRoots, Keeping.holds-changed, Keeping.holds-later, Keeping.lives-below, Keeping.root-kept, Starting.Keeps, Starting.direct-each, Starting.keeps_taken, Starting.pushed-there, Starting.starts, Starting.turns_by, Taken.keeps-root, Taken.laid-as, Taken.laid-root, Taken.root-there, Taken.take-keeps, Taken.taken-as}
 use Rattle.sj_meaning.proofs.Children.{first_length}
 
 -- ---- the tasks that no task line names are what they are without phases

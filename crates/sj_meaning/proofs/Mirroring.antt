@@ -77,8 +77,8 @@ mirror-change names d f keeps n S rs m h =
       λ r e. (omega (arith, long, here), subst (λ (d : Dims). 0 < area d) (sym (keeps h.root) ∙ ap (λ (x : RootState). x.dims) (same_Some (f h.root) r e)) (m.some n h.root h.below h.is)),
     )
 
-beside-push : (rs : List RootState) (x : RootState) (k : ℕ) → (k ≡ length rs → ⊥) → root_at (rs ++ x ∷ []) k ≡ root_at rs k
-beside-push rs x k other = elim (cases_lt k (length rs)) as (λ _. root_at (rs ++ x ∷ []) k ≡ root_at rs k) [
+pub pushed-beside : (rs : List RootState) (x : RootState) (k : ℕ) → (k ≡ length rs → ⊥) → root_at (rs ++ x ∷ []) k ≡ root_at rs k
+pushed-beside rs x k other = elim (cases_lt k (length rs)) as (λ _. root_at (rs ++ x ∷ []) k ≡ root_at rs k) [
   | inl lk ↦ get_or_append_left rs (x ∷ []) no_root k lk
   | inr le ↦ get_or_past (rs ++ x ∷ []) k no_root (omega (arith, length-append rs (x ∷ []), le, other)) ∙ sym (get_or_past rs k no_root le)
 ]
@@ -86,7 +86,7 @@ beside-push rs x k other = elim (cases_lt k (length rs)) as (λ _. root_at (rs +
 mirror-register : (names : List (List ℕ)) → AreDistinct names → (r : Registration ℕ) (S : JobState) (rs : List RootState) → IsMirror names S rs → r.name ≡ length rs → r.name < length names → 0 < area r.dims → IsMirror names (register (registration_named_by (name_at names) r) S) (rs ++ registered_root r ∷ [])
 mirror-register names d r S rs m e lt more =
     let longer = length-append rs (registered_root r ∷ []) in
-    mirror-put names d r.name S _ (Some (registered_root r)) rs _ m lt (get-put S.roots (name_at names r.name) (registered_root r)) (λ k other. beside-push rs (registered_root r) k (λ i. other (i ∙ sym e))) (omega (arith, longer)) (
+    mirror-put names d r.name S _ (Some (registered_root r)) rs _ m lt (get-put S.roots (name_at names r.name) (registered_root r)) (λ k other. pushed-beside rs (registered_root r) k (λ i. other (i ∙ sym e))) (omega (arith, longer)) (
       sym (get_or_push rs (registered_root r) no_root r.name (sym e)),
       λ s h. (omega (arith, longer, e), subst (λ (x : RootState). 0 < area x.dims) (same_Some (registered_root r) s h) more),
     )

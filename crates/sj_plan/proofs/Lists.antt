@@ -117,6 +117,10 @@ pub each-filter : {X : Type 0} (Q : X → Type 0) (p : X → Bool) (xs : List X)
 each-filter Q p [] a = tt
 each-filter Q p (x ∷ xs) a = each-keep Q (p x) x (filter p xs) a.0 (each-filter Q p xs a.1)
 
+-- what holds of each holds of those that pass
+pub each-kept : {X : Type 0} (P : X → Type 0) (p : X → Bool) (xs : List X) → AllByRecursion P xs → AllByRecursion P (filter p xs)
+each-kept P p xs h = each-filter P p xs (each-all P (λ x. p x ≡ true → P x) (λ x y e. y) xs h)
+
 each-range : (Q : ℕ → Type 0) (a n : ℕ) → ((k : ℕ) → k < a + n → Q k) → AllByRecursion Q (range_with_len a n)
 each-range Q a zero h = tt
 each-range Q a (suc n) h = (h a (omega arith), each-range Q (a + 1) n (λ k below. h k (omega arith)))
